@@ -34,7 +34,7 @@ BATCHES = """
 --addresses batch/open.csv --data faulty 01005|3|0|error: faulty/TGR01005.RT1: not found
 --addresses $county/addresses.csv --data $top/examples/town --shape 01007|0|*|
 --addresses batch/open.csv --data $county --shape 01001|3|0|error: $county/TGR01001.RT2: not found
---addresses batch/open.csv --data faulty --shape 01003|1|0|refused 1 rt1 line 1 WrongLength
+--addresses batch/open.csv --data faulty --shape 01003|3|0|error: faulty/TGR01003.RT2: not found
 --addresses batch/open.csv --data $county|2|0|error: the following required arguments were not provided:*<CODE>...*Usage: extractd geocode-batch *
 --addresses batch/many.csv --data $county 01001|0|*|
 """

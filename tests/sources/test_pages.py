@@ -17,7 +17,7 @@ CHANGES = [
     ("docs/http.md", "| `GET /health` |", "| `PUT /health` |", "docs/http.md: no row for GET /health"),
     ("docs/refusals.md", "**2 WrongType**", "**2 OtherType**", "docs/refusals.md: 2 OtherType isn't in the sources"),
     ("docs/refusals.md", "- **2 WrongType**", "- WrongType", "docs/refusals.md: 2 WrongType is missing"),
-    ("docs/ARCHITECTURE.md", "- `decimal`:", "- `decimals`:", "the part crates isn't what the sources say"),
+    ("docs/ARCHITECTURE.md", "- `numerals`:", "- `numeral`:", "the part crates isn't what the sources say"),
     ("docs/helpers.md", "| 1 | `field` |", "| 2 | `field` |", "the part helpers isn't what the sources say"),
     ("docs/records.md", "| TLID | 6-15 |", "| TLID | 6-16 |", "the part type 1 isn't what the sources say"),
     ("docs/records.md", "FEAT1 19-26", "FEAT1 19-27", "the part type 4 isn't what the sources say"),

@@ -15,26 +15,26 @@ use Rattle.csv.specs.declared.parser.State.TheVariants as st
 use Rattle.addresses.specs.Record.{Fields}
 use Rattle.addresses.specs.Regular.{EndsLine, after, after_plain, is_line_end}
 use Rattle.addresses.specs.WholeRecord.{IsWholeRecord, Skips}
-use Rattle.addresses.specs.declared.regular.Part.{Part}
-use Rattle.addresses.specs.declared.regular.Part.TheVariants.{Start, Plain, Quoted, Closed}
+use Rattle.addresses.specs.declared.regular.RecordPart.{RecordPart}
+use Rattle.addresses.specs.declared.regular.RecordPart.TheVariants.{Start, Plain, Quoted, Closed}
 
 -- the part after some bytes, if there is one
-unfoldable pub walk : List ℕ → Part → Option Part
+unfoldable pub walk : List ℕ → RecordPart → Option RecordPart
 walk [] part = Some part
 walk (byte ∷ bytes) part = option_and_then (walk bytes) (after part byte)
 
 -- the state of the crate csv's machine in a part
-abbrev pub state_of : Part → State
+abbrev pub state_of : RecordPart → State
 state_of Start = st.StartField
 state_of Plain = st.InField
 state_of Quoted = st.InQuoted
 state_of Closed = st.AfterQuote
 
 -- the machine moves from part to part, without ending the record
-abbrev Steps : State × Action → Part → Type 0
+abbrev Steps : State × Action → RecordPart → Type 0
 Steps stepped next = (stepped.0 ≡ state_of next) × (is_end stepped.1 ≡ false)
 
-steps-plain : (next : Part) (byte : ℕ) → after_plain byte ≡ Some next → Steps (in_field default_config byte) next
+steps-plain : (next : RecordPart) (byte : ℕ) → after_plain byte ≡ Some next → Steps (in_field default_config byte) next
 steps-plain next byte is = elim (cases_Bool (byte == 44)) [
   | inl comma ↦ let same : Start ≡ next = cc (rw comma at is) in rw (comma, sym same) (refl, refl)
   | inr other ↦ elim (cases_Bool ((byte == 34) || is_line_end byte)) [
@@ -53,7 +53,7 @@ steps-plain next byte is = elim (cases_Bool (byte == 44)) [
 otherwise : {A : Type 0} (test : Bool) (one other : A) → test ≡ false → (if test then one else other) ≡ other
 otherwise test one other fails = rw fails refl
 
-steps : (part next : Part) (byte : ℕ) → after part byte ≡ Some next → Steps (step default_config (state_of part) byte) next
+steps : (part next : RecordPart) (byte : ℕ) → after part byte ≡ Some next → Steps (step default_config (state_of part) byte) next
 steps Start next byte is = elim (cases_Bool (byte == 34)) [
   | inl mark ↦ let same : Quoted ≡ next = cc (rw mark at is) in rw (mark, sym same) (refl, refl)
   | inr other ↦
@@ -87,7 +87,7 @@ one-step : (state after : State) (byte : ℕ) (fields : Fields) (field bytes : L
 unfolding next_record
 one-step state after byte fields field bytes next_part = rw next_part refl
 
-walks : (bytes : List ℕ) (part next : Part) → walk bytes part ≡ Some next → (fields : Fields) (field : List ℕ)
+walks : (bytes : List ℕ) (part next : RecordPart) → walk bytes part ≡ Some next → (fields : Fields) (field : List ℕ)
     → Reads (state_of part) fields field bytes (state_of next)
 unfolding walk
 walks [] part next is fields field = record {
@@ -108,7 +108,7 @@ walks (byte ∷ bytes) part next is fields field =
     })
 
 -- a byte that is in place at the start of a cell is no line end
-no-end : (byte : ℕ) (next : Part) → after Start byte ≡ Some next → is_line_end byte ≡ false
+no-end : (byte : ℕ) (next : RecordPart) → after Start byte ≡ Some next → is_line_end byte ≡ false
 no-end byte next is = elim (cases_Bool (byte == 34)) [
   | inl mark ↦ let same : byte ≡ 34 = grind (arith, nat_tests) in rw same refl
   | inr other ↦ elim (cases_Bool (byte == 44)) [
@@ -123,7 +123,7 @@ unfolding next_record
 begins byte bytes next_part = rw next_part refl
 
 -- a line end outside quotation marks ends the record
-ends : (part : Part) → part ≢ Quoted → (fields : Fields) (cell file : List ℕ)
+ends : (part : RecordPart) → part ≢ Quoted → (fields : Fields) (cell file : List ℕ)
     → next_record default_config (state_of part) fields cell (10 ∷ file) ≡ Some (fields ++ cell ∷ [], st.StartRecord, file)
 unfolding next_record
 ends Start outside fields cell file = refl
@@ -131,7 +131,7 @@ ends Plain outside fields cell file = refl
 ends Quoted outside fields cell file = absurd (outside refl)
 ends Closed outside fields cell file = refl
 
-ends-return : (part : Part) → part ≢ Quoted → (fields : Fields) (cell file : List ℕ)
+ends-return : (part : RecordPart) → part ≢ Quoted → (fields : Fields) (cell file : List ℕ)
     → next_record default_config (state_of part) fields cell (13 ∷ file) ≡ Some (fields ++ cell ∷ [], st.AfterCr, file)
 unfolding next_record
 ends-return Start outside fields cell file = refl
@@ -144,18 +144,18 @@ unfolding next_record
 after-return file = refl
 
 -- a line of cells, without its line end
-pub record IsLine (line : List ℕ) (last : Part) : Type 0 where
+pub record IsLine (line : List ℕ) (last : RecordPart) : Type 0 where
   pub some : line ≢ []
   pub walked : walk line Start ≡ Some last
   pub outside : last ≢ Quoted
 
-first-in-line : (byte : ℕ) (bytes : List ℕ) (last : Part) → walk (byte ∷ bytes) Start ≡ Some last
+first-in-line : (byte : ℕ) (bytes : List ℕ) (last : RecordPart) → walk (byte ∷ bytes) Start ≡ Some last
     → is_line_end byte ≡ false
 unfolding walk
 first-in-line byte bytes last walked =
     option_and_then_some (walk bytes) (after Start byte) last walked (λ middle next_part later. no-end byte middle next_part)
 
-line-reads : (line : List ℕ) (last : Part) → IsLine line last → Reads st.StartRecord [] [] line (state_of last)
+line-reads : (line : List ℕ) (last : RecordPart) → IsLine line last → Reads st.StartRecord [] [] line (state_of last)
 line-reads [] last is = absurd (is.some refl)
 line-reads (byte ∷ bytes) last is =
     let walked = is.walked in
@@ -166,7 +166,7 @@ line-reads (byte ∷ bytes) last is =
       reads = λ file. begins byte (bytes ++ file) (first-in-line byte bytes last walked) ∙ rest.reads file;
     }
 
-pub whole-line : (line text : List ℕ) (last : Part) → IsLine line last → EndsLine line text → IsWholeRecord text
+pub whole-line : (line text : List ℕ) (last : RecordPart) → IsLine line last → EndsLine line text → IsWholeRecord text
 whole-line line text last is (inl feed) =
     let read = line-reads line last is in
     rw feed (record {
@@ -187,13 +187,13 @@ whole-line line text last is (inr return) =
       skips = after-return;
     })
 
-pub walk-next : (bytes : List ℕ) (at : ℕ) (part next : Part) → at < length bytes → after part (get_or bytes at 0) ≡ Some next
+pub walk-next : (bytes : List ℕ) (at : ℕ) (part next : RecordPart) → at < length bytes → after part (get_or bytes at 0) ≡ Some next
     → walk (drop at bytes) part ≡ walk (drop (at + 1) bytes) next
 unfolding walk
 walk-next bytes at part next below next_part =
     rw (drop-cons bytes at 0 below, next_part) (ap (λ n. walk (drop n bytes) next) (sym (add-one at)))
 
-pub whole-text : (line text : List ℕ) (at : ℕ) (last : Part) → (line ≢ []) × EndsLine line text → walk line Start ≡ walk (drop at line) last
+pub whole-text : (line text : List ℕ) (at : ℕ) (last : RecordPart) → (line ≢ []) × EndsLine line text → walk line Start ≡ walk (drop at line) last
     → length line ≤ at → last ≢ Quoted → IsWholeRecord text
 unfolding walk
 whole-text line text at last is walked all outside =

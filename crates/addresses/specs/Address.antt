@@ -4,7 +4,7 @@ use Rattle.csv.specs.Records.{field_at, fields_of}
 use Rattle.addresses.specs.Columns.{trimmed}
 use Rattle.addresses.specs.Reading.{RecordParts}
 use Rattle.addresses.specs.Record.{Fields}
-use Rattle.addresses.specs.declared.columns.Columns.{Columns}
+use Rattle.addresses.specs.declared.columns.HeaderColumns.{HeaderColumns}
 use Rattle.addresses.specs.declared.row.Address.{Address}
 use Rattle.addresses.specs.declared.row.AddressRow.{AddressRow}
 
@@ -41,7 +41,7 @@ value_in fields None = []
 value_in fields (Some column) = trimmed (cell_in fields column)
 
 -- the address of a record; its id is not trimmed
-abbrev pub address_of : Columns → RecordParts → AddressParts
+abbrev pub address_of : HeaderColumns → RecordParts → AddressParts
 address_of columns row = record {
   line = row.line;
   id = option_map (cell_in row.fields) columns.id;

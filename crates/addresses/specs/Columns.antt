@@ -4,7 +4,7 @@ use Rattle.std.specs.Char.{is_ascii_whitespace}
 use Rattle.std.specs.List.{position_from, prefix_len, suffix_len}
 use Rattle.std.specs.Str.{str_eq_ignore_ascii_case}
 use Rattle.addresses.specs.Record.{Fields}
-use Rattle.addresses.specs.declared.columns.Columns.{Columns}
+use Rattle.addresses.specs.declared.columns.HeaderColumns.{HeaderColumns}
 use Rattle.addresses.specs.declared.fault.AddressFaultKind.{AddressFaultKind}
 use Rattle.addresses.specs.declared.fault.AddressFaultKind.TheVariants.{NoNumber, NoName}
 
@@ -23,7 +23,7 @@ is_named name cell = str_eq_ignore_ascii_case (trimmed cell) name
 abbrev pub column_named : List ℕ → Fields → Option ℕ
 column_named name header = position_from (is_named name) 0 header
 
-abbrev pub columns_with : Option ℕ → Option ℕ → Fields → Result Columns AddressFaultKind
+abbrev pub columns_with : Option ℕ → Option ℕ → Fields → Result HeaderColumns AddressFaultKind
 columns_with (Some number) (Some name) header = Ok (record {
   id = column_named (codes "id") header;
   number = number;
@@ -37,5 +37,5 @@ columns_with None name header = Err NoNumber
 columns_with (Some number) None header = Err NoName
 
 -- a header's columns; it has to have a number and a name
-abbrev pub columns_of : Fields → Result Columns AddressFaultKind
+abbrev pub columns_of : Fields → Result HeaderColumns AddressFaultKind
 columns_of header = columns_with (column_named (codes "number") header) (column_named (codes "name") header) header

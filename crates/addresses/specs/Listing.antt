@@ -4,7 +4,7 @@ use Rattle.addresses.specs.Address.{AddressParts, address_of}
 use Rattle.addresses.specs.Columns.{columns_of}
 use Rattle.addresses.specs.Reading.{Reading, RecordParts, reading_of}
 use Rattle.addresses.specs.declared.addresses.Addresses.{Addresses}
-use Rattle.addresses.specs.declared.columns.Columns.{Columns}
+use Rattle.addresses.specs.declared.columns.HeaderColumns.{HeaderColumns}
 use Rattle.addresses.specs.declared.fault.AddressFault.{AddressFault}
 use Rattle.addresses.specs.declared.fault.AddressFault.TheVariants.{NoHeader, At, Memory}
 use Rattle.addresses.specs.declared.fault.AddressFaultKind.{AddressFaultKind}
@@ -26,10 +26,10 @@ abbrev pub with_addresses : List AddressParts → Listing → Listing
 with_addresses first later = record { addresses = first ++ later.addresses; fault = later.fault }
 
 -- the records under a header with these columns
-abbrev pub listed : Columns → Reading → Listing
+abbrev pub listed : HeaderColumns → Reading → Listing
 listed columns reading = record { addresses = map (address_of columns) reading.records; fault = reading.fault }
 
-abbrev pub under_columns : ℕ → Result Columns AddressFaultKind → Reading → Result Listing AddressFault
+abbrev pub under_columns : ℕ → Result HeaderColumns AddressFaultKind → Reading → Result Listing AddressFault
 under_columns line (Err flaw) reading = Err (At line flaw)
 under_columns line (Ok columns) reading = Ok (listed columns reading)
 

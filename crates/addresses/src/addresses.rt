@@ -3,7 +3,7 @@ ghost use Rattle.std.specs.Prelude.{◌≡◌, OnErr};
 ghost use Rattle.addresses.specs.Address.{address_in};
 ghost use Rattle.addresses.specs.Listing.{IsAddressRead, IsHeaderRead, addresses_in, addresses_left};
 
-use crate::columns::Columns;
+use crate::columns::HeaderColumns;
 use crate::fault::AddressFault;
 use crate::row::AddressRow;
 use crate::unread::Unread;
@@ -17,7 +17,7 @@ use std::alloc::Global;
 /// Other columns are ignored, as are empty lines and a byte order mark at the start of the file.
 #[derive(Drop)]
 pub struct Addresses<'a> {
-    columns: Columns,
+    columns: HeaderColumns,
     unread: Unread<'a>,
 }
 
@@ -31,7 +31,7 @@ impl<'a> Addresses<'a> {
         let Some(line) = unread.next(&mut header)? else {
             return Err(AddressFault::NoHeader);
         };
-        match Columns::of(&header) {
+        match HeaderColumns::of(&header) {
             Ok(columns) => Ok(Addresses { columns, unread }),
             Err(flaw) => Err(AddressFault::At { line, flaw }),
         }

@@ -8,7 +8,7 @@ use csv::StringRecord;
 
 /// The indices of the columns in a record, counted from 0.
 #[derive(Clone, Copy)]
-pub(crate) struct Columns {
+pub(crate) struct HeaderColumns {
     pub id: Option<usize>,
     pub number: usize,
     pub name: usize,
@@ -19,14 +19,14 @@ pub(crate) struct Columns {
     pub sufdir: Option<usize>,
 }
 
-impl Columns {
+impl HeaderColumns {
     /// Finds the columns that a header names. It has to have `number` and `name`.
-    pub(crate) fn of(header: &StringRecord) -> Result<Columns, AddressFaultKind>
+    pub(crate) fn of(header: &StringRecord) -> Result<HeaderColumns, AddressFaultKind>
         ensures { result ≡ columns_of (fields_of header.now) }
     {
         let number = column_named(header, "number").ok_or(AddressFaultKind::NoNumber)?;
         let name = column_named(header, "name").ok_or(AddressFaultKind::NoName)?;
-        Ok(Columns {
+        Ok(HeaderColumns {
             id: column_named(header, "id"),
             number,
             name,

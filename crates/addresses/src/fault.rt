@@ -72,6 +72,7 @@ impl Fault for AddressFault {
     fn refusal(&self) -> Refusal {
         match *self {
             AddressFault::NoHeader => Refusal::refused(100, "NoHeader"),
+            // The line feeds of a slice are counted, so a line fits in `usize`.
             AddressFault::At { line, flaw } => flaw.refusal().at_line(line as usize),
             AddressFault::Memory => Refusal::memory(),
         }

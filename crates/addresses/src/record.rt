@@ -32,6 +32,7 @@ pub(crate) fn read_fields(
         Ok(false) => return Ok(false),
         Err(error) => return Err(fault_of(line, &error)),
     }
+    // The record is cut before `csv` reads it. If `csv` finds another one in it, the two disagree about where it ends.
     match reader.read_byte_record(&mut ByteRecord::new(alloc)) {
         Ok(false) => Ok(true),
         Ok(true) => Err(AddressFault::At {
@@ -48,6 +49,7 @@ pub(crate) fn text_reader<'a>(alloc: Global, text: &'a [u8]) -> TextReader<'a>
 {
     // The reader skips one byte order mark. It skips this one, so a mark in the text itself stays in its first field.
     let marked = BYTE_ORDER_MARK.as_slice().chain(text);
+    // `flexible`, as a record may be shorter or longer than the header: a missing cell is empty, and further ones are ignored.
     ReaderBuilder::new()
         .has_headers(false)
         .flexible(true)

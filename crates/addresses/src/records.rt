@@ -29,6 +29,7 @@ pub(crate) fn read_record<'a>(
     ensures after { OnOk result (IsInStep first.entry.rest.now reader.new) }
     ensures stays { OnErr result (IsInStep first.entry.file.now reader.new) }
 {
+    // `csv` would take the rest of the file as one cell. Cut here, an unclosed mark is refused at its line.
     if first.is_open {
         let flaw = AddressFaultKind::OpenQuote;
         return Err(AddressFault::At { line, flaw });
@@ -40,6 +41,7 @@ pub(crate) fn read_record<'a>(
     if is_blank(first.text) {
         return Ok(false);
     }
+    // Only such a text is left to the reader of the file, which may not read past it. A new reader takes 10 µs for its tables.
     if is_regular(first.text) {
         return read_next(alloc, line, first, reader, row);
     }
@@ -67,6 +69,7 @@ fn read_next<'a>(
     match reader.read_record(row) {
         Ok(found) => Ok(found),
         Err(error) => {
+            // The failed read has consumed bytes.
             *reader = text_reader(alloc, first.file);
             Err(fault_of(line, &error))
         }

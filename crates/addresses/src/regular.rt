@@ -5,7 +5,7 @@ ghost use Rattle.addresses.specs.WholeRecord.{IsWholeRecord};
 
 /// The part of a cell that was just read.
 #[derive(Clone, Copy)]
-enum Part {
+enum RecordPart {
     /// Nothing yet.
     Start,
     /// A byte of a cell without quotation marks.
@@ -24,14 +24,14 @@ pub(crate) fn is_regular(text: &[u8]) -> bool
     let Some(line) = without_end(text) else {
         return false;
     };
-    let mut part = Part::Start;
+    let mut part = RecordPart::Start;
     for byte in line {
         match part.after(*byte) {
             Some(next) => part = next,
             None => return false,
         }
     }
-    !matches!(part, Part::Quoted)
+    !matches!(part, RecordPart::Quoted)
 }
 
 /// Returns the line of a text, if it isn't empty and ends with LF or CR LF.
@@ -46,18 +46,18 @@ fn without_end(text: &[u8]) -> Option<&[u8]>
     }
 }
 
-impl Part {
+impl RecordPart {
     /// Returns the part after a byte, or `None` if the byte ends the line or is a mark in the wrong place.
-    fn after(self, byte: u8) -> Option<Part>
+    fn after(self, byte: u8) -> Option<RecordPart>
         ensures { result ≡ after self byte }
     {
         match (self, byte) {
-            (Part::Start | Part::Closed, b'"') => Some(Part::Quoted),
-            (Part::Quoted, b'"') => Some(Part::Closed),
-            (Part::Quoted, _) => Some(Part::Quoted),
-            (_, b',') => Some(Part::Start),
-            (Part::Closed, _) | (_, b'"' | b'\r' | b'\n') => None,
-            _ => Some(Part::Plain),
+            (RecordPart::Start | RecordPart::Closed, b'"') => Some(RecordPart::Quoted),
+            (RecordPart::Quoted, b'"') => Some(RecordPart::Closed),
+            (RecordPart::Quoted, _) => Some(RecordPart::Quoted),
+            (_, b',') => Some(RecordPart::Start),
+            (RecordPart::Closed, _) | (_, b'"' | b'\r' | b'\n') => None,
+            _ => Some(RecordPart::Plain),
         }
     }
 }

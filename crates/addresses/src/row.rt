@@ -3,7 +3,7 @@ ghost use Rattle.std.specs.Prelude.{◌≡◌, option_map};
 ghost use Rattle.addresses.specs.Address.{address_in, cell_in, no_address, parts_of, value_in};
 ghost use Rattle.csv.specs.Records.{fields_of};
 
-use crate::columns::Columns;
+use crate::columns::HeaderColumns;
 use csv::StringRecord;
 use std::alloc::Global;
 
@@ -28,7 +28,7 @@ pub struct Address<'a> {
 #[derive(Drop)]
 pub struct AddressRow {
     pub(crate) line: u64,
-    pub(crate) columns: Columns,
+    pub(crate) columns: HeaderColumns,
     pub(crate) cells: StringRecord,
 }
 
@@ -39,7 +39,7 @@ impl AddressRow {
     {
         AddressRow {
             line: 0,
-            columns: Columns {
+            columns: HeaderColumns {
                 id: None,
                 number: 0,
                 name: 0,

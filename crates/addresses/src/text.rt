@@ -33,6 +33,7 @@ pub(crate) fn first_text<'a>(file: &'a [u8]) -> FirstText<'a>
     ensures progress { file.now ≢ [] → length result.rest.now < length file.now }
     ensures open { result.is_open ≡ is_open result.text.now }
 {
+    // The quotation marks are counted here, not by `csv`, so that an unclosed one is refused at its own line and no record exceeds the limit.
     let mut is_open = false;
     for (at, byte) in file.iter().enumerate() {
         is_open = inside_after(is_open, *byte);

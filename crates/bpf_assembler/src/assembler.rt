@@ -1,4 +1,13 @@
 //! The assembler: text to code in two passes, the first of which finds the places of labels.
+//!
+//! Two, as a jump may name a label further down; the second fills in the distances. So every fault within a line comes before those that need all
+//! labels, 23 UnknownLabel and 25 LabelTooFar, wherever the lines are. Changing this changes which fault of a text is its first, which the contract
+//! of `assemble` states.
+//!
+//! One line is one instruction, and no jump is replaced by a longer one: the places in a refusal, a listing or a file of source lines are those that
+//! the author counts. The labels are in an ordered map, since strangers choose them and could attack an unseeded hash.
+//!
+//! Always: the words of the items so far fit the limit, so the second pass can only run out of memory or find a label missing or too far.
 ghost use Rattle.std.specs.Prelude.{◌≡◌, ◌≢◌, IsErrAnd, ◌≤◌, ◌+◌, ◌-ℤ◌, ◌⊎◌, ℕ, pos, suc, List, length, Ok, IfOk, IfErr, MatchResult};
 ghost use Rattle.bpf_insn.specs.declared.instruction.Insn.{Insn};
 ghost use Rattle.bpf_assembler.specs.Statement.{Statement as Meaning, Label, Instruction, statement_in};
@@ -28,6 +37,7 @@ pub(crate) struct Item<'a> {
 #[derive(Drop)]
 struct Notes<'a, A: Allocator> {
     items: Vec<Item<'a>, A>,
+    // Strangers choose the labels, and could attack an unseeded hash.
     /// The place of each label.
     labels: BTreeMap<&'a [u8], u32, A>,
     /// The number of words of the instructions.
@@ -54,6 +64,7 @@ fn assemble_bytes<A: Allocator + Copy>(alloc: A, text: &[u8]) -> Result<Code<A>,
 {
     let notes = Notes::read(alloc, text)?;
     let builder = notes.code(alloc)?;
+    // A text without instructions has no line at fault.
     match builder.finish() {
         Ok(code) => Ok(code),
         Err(_) => Err(TextFault::InLine {
@@ -109,6 +120,7 @@ impl<'a, A: Allocator + Copy> Notes<'a, A> {
         ensures noted { (before : List Meaning) → AreNotesOf self.old.items.items (places_in self.old.labels) self.old.words before → line ≡ suc (length before)
             → NotesLine before (Ok (Label name.now)) line (AreNotesOf self.new.items.items (places_in self.new.labels) self.new.words) result }
     {
+        // Before the insertion, which would replace the first label.
         if self.labels.contains_key(&name) {
             return Err(TextFault::InLine {
                 line,
@@ -190,6 +202,7 @@ impl<'a, A: Allocator + Copy> Notes<'a, A> {
         let Some(target) = self.labels.get(&name) else {
             return Err(TextFaultKind::UnknownLabel);
         };
+        // One line is one instruction: the jump isn't replaced by a longer one, which would move the places after it.
         match at_distance(distance(item.place, *target), item.insn) {
             Some(insn) => Ok(insn),
             None => Err(TextFaultKind::LabelTooFar),

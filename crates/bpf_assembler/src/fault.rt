@@ -3,10 +3,7 @@ ghost use Rattle.std.specs.Prelude.{◌≡◌};
 ghost use Rattle.bpf_assembler.specs.declared.fault.TextFault.TheVariants.{Memory};
 ghost use Rattle.bpf_assembler.specs.TextFaultKind as text_flaw;
 ghost use Rattle.bpf_assembler.specs.TextFaultKind.{of_code, text_too_long};
-ghost use Rattle.bpf_assembler.specs.TextFault as text_fault;
-ghost use Rattle.refusals.specs.Refusal.{line as refusal_line};
 
-use arrayvec::ArrayString;
 use bpf_insn::{CodeFault, WordFault};
 use refusals::{Fault, Refusal};
 use std::alloc::{AllocError, AllocFailed};
@@ -94,15 +91,6 @@ fn of_code(code: &Refusal) -> Refusal
     ensures { result ≡ of_code code.now }
 {
     Refusal::detailed(26, "CodeFault", code.number())
-}
-
-impl TextFault {
-    /// Returns the refusal's line of text, like `refused 21 line 3 UnknownMnemonic`, without a line end. It doesn't allocate.
-    pub fn line(&self) -> ArrayString<64>
-        ensures { result.bytes ≡ refusal_line (text_fault.refusal self.now) }
-    {
-        Fault::line(self)
-    }
 }
 
 impl Fault for TextFault {

@@ -17,6 +17,7 @@ fn number_in(digits: &[u8], radix: u32, most: usize) -> Result<u128, TextFaultKi
     ensures value { result ≡ number_in radix most digits.now }
     ensures small { IfOk result (λ number. number < radix ^ most) }
 {
+    // Too many digits are a flaw of form, unlike a number that doesn't fit. 20 decimal or 16 hexadecimal digits also keep the sum within 128 bits.
     if digits.is_empty() || digits.len() > most {
         return Err(TextFaultKind::Syntax);
     }
@@ -102,8 +103,10 @@ pub(crate) fn immediate_in(text: &[u8]) -> Result<i32, TextFaultKind>
     ensures { result ≡ immediate_in text.now }
 {
     if let Some(digits) = hexadecimal_digits(text) {
+        // Hexadecimal digits spell the bits of the field: `0xffffffff` is -1.
         return Ok((number_in(digits, 16, 8)? as u32).cast_signed());
     }
+    // A plus sign belongs to distances and offsets alone.
     match text {
         [b'-', digits @ ..] => negative(decimal_in(digits)?, LIMIT_OF_32_BITS),
         _ => positive(decimal_in(text)?, LIMIT_OF_32_BITS),

@@ -138,6 +138,7 @@ pub(crate) fn memory_in(word: &[u8]) -> Result<(Register, i16), TextFaultKind>
 pub(crate) fn target_16(word: &[u8]) -> Result<(i16, Option<&[u8]>), TextFaultKind>
     ensures { target_view result ≡ target_in limit_of_16_bits word.now }
 {
+    // A distance begins with its sign, so no word is both.
     if is_label(word) {
         return Ok((0, Some(word)));
     }

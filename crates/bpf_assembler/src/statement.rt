@@ -1,4 +1,11 @@
 //! The meaning of a line of program text.
+//!
+//! There is a function per form, not a table of operand kinds, since each builds another variant of `Insn`, and `Insn` can't express what no word
+//! has. Which flaw of a line counts follows from the order here: the mnemonic (20, 21), then the form of all operands (20), then the range of their
+//! numbers (22), and last a destination that is register 10 (26 with 18). So `both` reads both sides before it refuses one, and `destination_of`
+//! comes after the operands. A label isn't looked up here: its jump has distance 0 until the second pass.
+//!
+//! Always: no fault depends on another line, and nothing is allocated; a name borrows from the text.
 ghost use Rattle.std.specs.Prelude.{◌≡◌};
 ghost use Rattle.bpf_assembler.specs.Words.{split_operand};
 ghost use Rattle.bpf_assembler.specs.Operand.{or_fault, register_in, memory_in, source_in, target_in};
@@ -60,6 +67,7 @@ fn instruction_of(content: &[u8]) -> Result<Statement<'_>, TextFaultKind>
     ensures { statement_view result ≡ instruction_of content.now }
 {
     let (word, operands) = split_word(content);
+    // A word that can't be a mnemonic is a flaw of form. Only a well-formed one is unknown.
     if !is_mnemonic(word) {
         return Err(TextFaultKind::Syntax);
     }

@@ -11,6 +11,7 @@ pub fn first_line(text: &[u8]) -> (&[u8], &[u8])
 {
     match find_line_feed(text) {
         Some(end) => (without_carriage_return(&text[..end]), &text[end + 1..]),
+        // Without a line feed a CR is a byte of the line, also at the end of the text.
         None => (text, &[]),
     }
 }

@@ -85,6 +85,7 @@ pub fn explain<A: Allocator + Copy>(
             Ok(explanation)
         }
         Err(fault) => {
+            // The program's fault is what is reported, so a faulty file of source lines counts as none.
             let text = list_fault(alloc, program, fault, SourceLines::or_none(places))?;
             Ok(Explanation {
                 text,
@@ -117,6 +118,7 @@ fn list_fault<A: Allocator + Copy>(
     match fault {
         ProgramFault::Code(fault) => list_code_fault(alloc, program, fault, lines),
         ProgramFault::Flow(fault) => list_flow_fault(alloc, program, fault, lines),
+        // Bytes and jumps alone were checked, so this is a failed allocation.
         ProgramFault::Verify(_) | ProgramFault::Memory => Err(AllocError),
     }
 }

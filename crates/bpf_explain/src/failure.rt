@@ -167,6 +167,7 @@ fn push_more_facts<A: Allocator>(
 fn push_called_number<A: Allocator>(text: &mut String<A>, insn: Insn) -> Result<(), AllocError>
     ensures { OnOk result (string_bytes text.new ≡ string_bytes text.old ++ called_number insn) }
 {
+    // A helper function's number is unsigned: `call -1` calls 4294967295.
     match insn {
         Insn::Call { immediate } => push_number(text, u64::from(immediate.cast_unsigned())),
         _ => Ok(()),

@@ -1,4 +1,6 @@
 //! A program's listing, in the order in which the verifier visits its instructions.
+//!
+//! A visitor of the verifier's own pass: what is listed is what the verifier knew, not a second analysis.
 ghost use Rattle.std.specs.Prelude.{◌≡◌, ◌≤◌, ◌++◌, Some, nat_lt, length, ◌<◌, IfOk, IfSome, OnOk};
 ghost use Rattle.std.specs.List.{position, position_or_len};
 ghost use Rattle.std.specs.String.{string_bytes};
@@ -57,6 +59,7 @@ impl<'a, A: Allocator + Copy> Listing<'a, A> {
         Listing {
             alloc,
             text: String::new(alloc),
+            // Unknown, so that the first note shows everything known at the start.
             known: AbstractState::unknown(),
             insn: None,
             remaining: lines,
@@ -68,6 +71,7 @@ impl<'a, A: Allocator + Copy> Listing<'a, A> {
         ensures { IfOk result (λ text. text.items ≡ accepted_text self.entry) }
     {
         let mut text = self.text;
+        // Source lines may name places after the last instruction.
         push_sources(&mut text, self.remaining)?;
         text.push_str("accepted\n")?;
         Ok(text.into_bytes())
@@ -115,6 +119,7 @@ impl<'a, A: Allocator + Copy> Visitor for Listing<'a, A> {
     ) -> Result<(), AllocError> {
         let note = note(self.alloc, &self.known, known, insn)?;
         self.push_visit(place, insn, &note)?;
+        // The verifier changes its state in place, and the next note needs this one to compare with.
         self.known = known.duplicate();
         Ok(())
     }

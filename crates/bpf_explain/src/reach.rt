@@ -1,4 +1,12 @@
 //! Accesses to bytes that are outside an area or aren't written.
+//!
+//! The words of 44 OutOfBounds and 45 UnwrittenFrame. The numbers shown are those that the verifier compared: the least offset of the base plus the
+//! instruction's own, up to the last byte from the greatest one. They need more than 64 bits with a sign, so they are computed as `i128`. A call has
+//! no base and offset; its bytes are those of registers 2 and 3, a pointer and a count, where the count's greatest value is what may be reached.
+//!
+//! Each function appends one part of a sentence and has a definition of the same name, because the text is part of the contract of `explain`.
+//!
+//! Always: what is shown is what is known, so no text says more than the check that failed.
 ghost use Rattle.std.specs.Prelude.{◌≡◌, ◌++◌, OnOk, decimal};
 ghost use Rattle.std.specs.String.{string_bytes};
 ghost use Rattle.bpf_verify.specs.LiftedState.{IsProperState};
@@ -25,6 +33,7 @@ pub(crate) fn push_outside<A: Allocator>(
     requires { IsProperState known.now }
     ensures { OnOk result (string_bytes text.new ≡ string_bytes text.old ++ outside known.now insn) }
 {
+    // A call has no base and offset: registers 2 and 3 say which bytes it uses.
     if let Insn::Call { immediate } = insn {
         return push_call_outside(text, known, immediate);
     }

@@ -1,4 +1,7 @@
 //! Codes whose jumps all go forward.
+//!
+//! Jumps go only forward, so one pass over the places sees everything that leads to an instruction before the instruction itself, and a run needs no
+//! limit of steps. A `Flow` keeps its code private and is made by `of` alone, so that nothing checks the jumps again.
 ghost use Rattle.std.specs.Prelude.{◌≡◌, ◌≢◌, ◌<◌, ◌+◌, ◌≤ℤ◌, pos, length, option_map, Some, IsSome, IfSome, IsOk, IfOk, IfErr, OnOk};
 ghost use Rattle.bpf_insn.specs.Code.{instruction_at};
 ghost use Rattle.bpf_insn.specs.Form.{spelling};
@@ -37,6 +40,7 @@ impl<A: Allocator> Flow<A> {
         ensures err { IfErr result (IsFirstFault code) }
         ensures forward { IsForward code → IsOk result }
     {
+        // Jumps come first, also in code that nothing reaches, so that a fault depends on the words alone.
         check_jumps(&code)?;
         check_last(&code)?;
         Ok(Flow { code })
@@ -107,6 +111,7 @@ fn check_jump<A: Allocator>(code: &Code<A>, place: usize, distance: i32) -> Resu
     ensures ok { OnOk result (IsForwardJump code.now place distance) }
     ensures err { IfErr result (IsFirstFault code.now) }
 {
+    // Checked before the target is computed, since a target can't be negative.
     if distance < 0 {
         return Err(FlowFault::BackwardJump { place });
     }

@@ -1,4 +1,11 @@
 //! What is known of a program's frame: which bytes are written, and what its slots hold.
+//!
+//! Each state of the verifier's pass has such a map, and each edge copies or joins one, so it is laid out for that: the marks are eight lanes of 64
+//! bits, which a few vector instructions join, and marking bytes is one `|` with the lanes of their range. There is one kind per slot and nothing for
+//! less than eight bytes, because compilers with 64-bit registers spill whole slots.
+//!
+//! Always: a slot that is known to hold a number has all its marks, and one that is known to hold a pointer has none. So a load of a slot needs only
+//! the kind, and a pointer has no bytes that a program could read. A slot of which nothing is known may still have marks.
 ghost use Rattle.std.specs.Prelude.{◌≡◌, ◌≤◌, ◌<◌, ◌+◌, ◌*◌, ◌↔◌, ◌&&◌, ℕ, Bool, false, not, IsTrue, slice_index_or};
 ghost use Rattle.bpf_frame.specs.FrameMap as map;
 ghost use Rattle.bpf_frame.specs.FrameMap.{AllWritten, IsMarked, IsProper, all_written, fit_marks, mark, set_slot, slot_kind, touch, unwritten, with_marks};
@@ -22,9 +29,12 @@ const LANE_BITS: usize = 64;
 pub struct FrameMap {
     // The mark of the byte at an offset is the bit offset mod 64 of the lane offset div 64.
     lanes: u64x8,
+    // One per slot, as compilers spill whole registers.
     kinds: [Kind; SLOTS],
 }
 
+// That a map is proper is a clause of its methods and no invariant of the type: the verifier's definitions speak of a map's contents, which no
+// invariant covers.
 impl Model for FrameMap {
     ghost use Rattle.bpf_frame.specs.FrameMap.{Contents};
     ghost use Rattle.bpf_frame.specs.Lanes.{AreLanes, marks_of};
@@ -66,6 +76,7 @@ impl FrameMap {
         ensures proper { IsProper self.new }
     {
         if len > 0 {
+            // The bytes may be part of what a slot held.
             clear(&mut self.kinds, from, from + len - 1);
             self.lanes |= lanes_of_range(from, from + len);
         }
@@ -122,6 +133,7 @@ impl FrameMap {
         ensures value { result ≡ all_written self.now.marks from to }
         ensures written { IsTrue result ↔ AllWritten self.now.marks from to }
     {
+        // Only the lanes that the bytes are in: one or two, as a rule.
         for lane in from / LANE_BITS..=to / LANE_BITS {
             let bits = bits_within(lane, from, to + 1);
             if self.lanes[lane] & bits != bits {
@@ -172,7 +184,9 @@ fn fit_lanes(lanes: u64x8, slot: usize, kind: Kind) -> u64x8
     let range = lanes_of_range(first, first + SLOT_LENGTH);
     match kind {
         Kind::Number(_) => lanes | range,
+        // A pointer's bytes count as unwritten, so no program can see how it is stored, or make one.
         Kind::Record(_) | Kind::Frame(_) => without(lanes, range),
+        // Joins forget a kind before they forget marks: the bytes may still be written.
         Kind::Nothing => lanes,
     }
 }

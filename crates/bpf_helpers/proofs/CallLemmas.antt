@@ -8,8 +8,8 @@ use Rattle.std.proofs.lemmas.Grind.{common_steps}
 use Rattle.std.proofs.lemmas.List.Elements.{All-cons}
 use Rattle.std.proofs.lemmas.List.{length-replicate}
 use Rattle.tl_fields.specs.Coordinate.{coordinate_of, negative}
-use Rattle.decimal.specs.Numeral.{decimal_in}
-use Rattle.decimal.proofs.NumeralLemmas.{decimal_in-lt}
+use Rattle.numerals.specs.Numeral.{decimal_in}
+use Rattle.numerals.proofs.NumeralLemmas.{decimal_in-lt}
 use Rattle.tl_fields.specs.Number.{number_of, trim}
 use Rattle.tl_fields.specs.Field.{field_of}
 use Rattle.tl_segments.specs.Range.{AreBytes, lies_on}

@@ -32,7 +32,9 @@ pub fn call<A: Allocator>(
         (call helper segment.now arguments (bytes_read (frame_use (signature helper).shape) arguments frame.old) score.old).score }
     ensures interval { Admits (signature helper).answer result }
 {
+    // Words, neither values nor kinds, so that the machine can call this directly.
     let [first, second, third] = arguments;
+    // Missing data has an answer, 0 or blanks, so that programs needn't ask for counts first.
     match helper {
         Helper::Field => field_number(segment, first).unwrap_or(0),
         Helper::HasField => u64::from(field_number(segment, first).is_some()),

@@ -30,6 +30,7 @@ pub enum Helper {
     Coord,
 }
 
+// RFC 9669 leaves the functions and their numbers to the platform, so both are this project's own.
 /// All helper functions, in the order of their numbers.
 pub const HELPERS: [Helper; 9] = [
     Helper::Field,
@@ -62,6 +63,7 @@ const ANY_NUMBER: Interval = Interval {
 const NAME_AND_BYTES: [Argument; 3] = [
     Argument::Number(ANY_NUMBER),
     Argument::Frame,
+    // The length of FENAME.
     Argument::Number(Interval { low: 1, high: 30 }),
 ];
 
@@ -105,9 +107,11 @@ impl Helper {
         ensures { result ≡ signature self }
     {
         match self {
+            // An address field has 11 digits, more than any other.
             Helper::Field => row(1, unary(FIELD_IDS), Shape::ReadsRecord, 0, 99_999_999_999),
             Helper::HasField => row(2, unary(FIELD_IDS), Shape::ReadsRecord, 0, 1),
             Helper::NameCount => row(3, NO_ARGUMENTS, Shape::ReadsSegment, 0, MAX_NAMES as u64),
+            // The record of type 1 has a range of its own.
             Helper::RangeCount => row(
                 4,
                 NO_ARGUMENTS,
@@ -119,6 +123,7 @@ impl Helper {
             Helper::NameCopy => row(6, NAME_AND_BYTES, Shape::CopiesIntoFrame, 0, 1),
             Helper::NameIs => row(7, NAME_AND_BYTES, Shape::ComparesFrame, 0, 1),
             Helper::Emit => row(8, unary(ANY_NUMBER), Shape::SetsScore, 0, 0),
+            // A coordinate is in two's complement, so one in the west or south is a large number.
             Helper::Coord => row(9, unary(COORDINATE_IDS), Shape::ReadsRecord, 0, u64::MAX),
         }
     }

@@ -28,6 +28,7 @@ pub enum Argument {
     Frame,
 }
 
+// Proofs go by shape, so that a new helper function needs nothing there except its bounds.
 /// What a call reads besides its arguments, and what it changes besides its answer.
 #[derive(Clone, Copy, PartialEq, Eq)]
 pub enum Shape {

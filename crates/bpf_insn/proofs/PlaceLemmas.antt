@@ -94,7 +94,7 @@ pub instruction_at-inside : (insn : Insn) (code : List Insn) (place : ℕ) → 0
 instruction_at-inside insn code place above below =
     rw (starts_not place (length (spelling insn)) above, is_within place (length (spelling insn)) below) refl
 
-index_at-inside : (insn : Insn) (code : List Insn) (place : ℕ) → 0 < place → place < length (spelling insn)
+pub index_at-inside : (insn : Insn) (code : List Insn) (place : ℕ) → 0 < place → place < length (spelling insn)
     → index_at (insn ∷ code) place ≡ None
 index_at-inside insn code place above below =
     rw (starts_not place (length (spelling insn)) above, is_within place (length (spelling insn)) below) refl
@@ -104,7 +104,7 @@ pub instruction_at-after : (insn : Insn) (code : List Insn) (place : ℕ) → le
 instruction_at-after insn code place past =
     rw (starts_not place (length (spelling insn)) (omega arith), is_past place (length (spelling insn)) past) refl
 
-index_at-after : (insn : Insn) (code : List Insn) (place : ℕ) → length (spelling insn) ≤ place
+pub index_at-after : (insn : Insn) (code : List Insn) (place : ℕ) → length (spelling insn) ≤ place
     → index_at (insn ∷ code) place ≡ option_map (λ (i : ℕ). suc i) (index_at code (place - length (spelling insn)))
 index_at-after insn code place past =
     rw (starts_not place (length (spelling insn)) (omega arith), is_past place (length (spelling insn)) past) refl

@@ -1,4 +1,7 @@
 //! The results of arithmetic, comparisons and loads, on numbers of 64 bits.
+//!
+//! The meaning, the machine and, for single numbers, the verifier compute by these functions, so they can't differ. `apply` and `holds` are inlined,
+//! because the machine passes a constant operation and width, for which the match becomes straight code.
 ghost use Rattle.std.specs.Prelude.{◌≡◌, ◌<◌, ◌%◌, ◌^◌};
 ghost use Rattle.std.specs.Int.{w8, w16, w32, w64, cast_signed, cast_unsigned, swap_bytes};
 ghost use mir.Val.{bits};
@@ -20,6 +23,7 @@ impl Operation {
     {
         let x = width.low_bits(x);
         let y = width.low_bits(y);
+        // RFC 9669 defines division by zero: the quotient is 0, the remainder the dividend. The least number divided by -1 is itself.
         match self {
             Operation::Add => width.low_bits(x.wrapping_add(y)),
             Operation::Subtract => width.low_bits(x.wrapping_sub(y)),
@@ -106,6 +110,7 @@ impl Width {
         ensures value { result ≡ y % bits (operand_bits self) }
         ensures below { result < bits (operand_bits self) }
     {
+        // RFC 9669 masks the amount, so no shift is too far.
         match self {
             Width::Bits32 => (y % 32) as u32,
             Width::Bits64 => (y % 64) as u32,

@@ -11,6 +11,7 @@ use crate::register::{Register, WritableRegister};
 use std::alloc::{AllocError, Allocator};
 use std::marker::Model;
 
+// There are no loops, so compilers unroll them: a test of 5,000 names takes 25,000 words.
 /// The maximum number of words in a program, of eight bytes each.
 pub const MAX_WORDS: usize = 65_536;
 
@@ -18,6 +19,7 @@ pub const MAX_WORDS: usize = 65_536;
 /// it was made with.
 #[derive(Drop)]
 pub struct CodeBuilder<A: Allocator> {
+    // Both numberings are kept, so finding an instruction takes no search either way.
     instructions: Vec<Insn, A>,
     // The place of each instruction.
     places: Vec<u32, A>,
@@ -97,6 +99,7 @@ impl<A: Allocator> CodeBuilder<A> {
         if MAX_WORDS - place < insn.words() {
             return Err(CodeFault::TooLong);
         }
+        // Room for all three lists comes before the first push, so a failed allocation leaves them equally long.
         self.instructions.reserve(1)?;
         self.places.reserve(1)?;
         push_indexes(&mut self.indexes, self.instructions.len() as u32, insn)?;

@@ -1,4 +1,6 @@
 //! Decoding: from bytes to a code.
+//!
+//! It isn't named `decode`, because a module can't share a name with an item beside it.
 ghost use Rattle.std.specs.Prelude.{◌≡◌, ◌≢◌, ◌*◌, ◌/◌, ◌≤◌, ◌<◌, ◌%◌, List, length, IfOk, IfErr, ◌⊎◌, OnOk, MatchResult, IsErrAnd};
 ghost use Rattle.bpf_insn.specs.Word.{words_of};
 ghost use Rattle.bpf_insn.specs.Code.{IsCodeOf, IsFirstFault, code_words};
@@ -46,6 +48,7 @@ fn check_length(bytes: &[u8]) -> Result<(), CodeFault>
         ((length bytes.now % 8 ≡ 0) × (0 < length bytes.now) × (length bytes.now ≤ 8 * MAX_WORDS)) }
     ensures err { IfErr result (IsFirstFault bytes.now) }
 {
+    // In this order 524,289 bytes are `NotWhole`, not `TooLong`.
     match bytes.len() {
         0 => Err(CodeFault::Empty),
         length if length % WORD_BYTES != 0 => Err(CodeFault::NotWhole),
@@ -67,6 +70,7 @@ fn read_instructions<A: Allocator + Copy>(
     let mut code = CodeBuilder::with_capacity(alloc, count)?;
     let mut place = 0;
     while place < count {
+        // Only up to the first fault, as it isn't known where later instructions would begin.
         let instruction = match read_instruction(bytes, place) {
             Ok(instruction) => instruction,
             Err(fault) => return Err(CodeFault::InWord { place, fault }),

@@ -2,10 +2,7 @@
 ghost use Rattle.std.specs.Prelude.{◌≡◌};
 ghost use Rattle.bpf_insn.specs.declared.fault.CodeFault.TheVariants.{Memory};
 ghost use Rattle.bpf_insn.specs.WordFault as word_fault;
-ghost use Rattle.bpf_insn.specs.CodeFault as code_fault;
-ghost use Rattle.refusals.specs.Refusal.{line as refusal_line};
 
-use arrayvec::ArrayString;
 use refusals::{Fault, Refusal};
 use std::alloc::{AllocError, AllocFailed};
 use thiserror::Error;
@@ -76,15 +73,6 @@ impl WordFault {
             WordFault::CutWide => Refusal::refused(17, "CutWide"),
             WordFault::WritesFramePointer => Refusal::refused(18, "WritesFramePointer"),
         }
-    }
-}
-
-impl CodeFault {
-    /// Returns the refusal's line of text, such as `refused 13 place 2 UnknownOpcode`, without an end of line. Allocates nothing.
-    pub fn line(&self) -> ArrayString<64>
-        ensures { result.bytes ≡ refusal_line (code_fault.refusal self.now) }
-    {
-        Fault::line(self)
     }
 }
 

@@ -1,4 +1,12 @@
 //! Instructions, with an enum for each of their parts.
+//!
+//! A variant of `Insn` for each row of the instruction table, an enum for each part of a row. A combination that no word has can't be built, so
+//! whatever takes an `Insn` needs no check of its own. The price is nested enums: a match over them takes a second jump, which is why the machine
+//! runs flat forms. Discriminants are the standard's own codes where it has some, and the offset is added above them where it tells two instructions
+//! apart (signed division, moves with sign extension).
+//!
+//! Always: a code has exactly one spelling in words. Therefore a wide load keeps its two immediates, not their number, and a register that is written
+//! is a `WritableRegister`. A new variant belongs to a row in `rows.rt` and to every match here; the compiler names the others.
 ghost use Rattle.std.specs.Prelude.{◌≡◌, length};
 ghost use Rattle.bpf_insn.specs.Form.{spelling};
 ghost use Rattle.bpf_insn.specs.Jump.{words, jump_distance};
@@ -204,6 +212,7 @@ pub enum Insn {
     /// A 64-bit number for a register, in two words (section 5.4).
     WideLoad {
         destination: WritableRegister,
+        // Two immediates, not one number: a definition's numbers have no upper limit, and several would have the same words.
         /// The low 32 bits.
         immediate: i32,
         /// The high 32 bits, from the second word.

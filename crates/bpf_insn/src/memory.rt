@@ -5,6 +5,7 @@ ghost use Rattle.bpf_insn.specs.Memory.{load_length, store_length};
 
 use crate::instruction::{LoadFormat, StoreSize};
 
+// RFC 9669 leaves the size of a frame to the platform.
 /// The length in bytes of the frame, the program's own memory. Register 10 starts past its end.
 pub const FRAME_LENGTH: usize = 512;
 

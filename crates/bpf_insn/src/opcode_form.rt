@@ -1,4 +1,11 @@
 //! The instruction table, by opcodes: the form of an instruction, and the fields that it uses.
+//!
+//! Decoding goes by these rows: it finds the opcode's form, compares the word with the form's `Row`, and only then builds the instruction. So the
+//! checks of a word are data, which code and definitions share, and the order of its faults is in one place (`Row::fault`). The lists are generated
+//! from `rows.rt`, because opcodes, mnemonics and flat forms must agree and a list of each would have to be kept in step.
+//!
+//! Always: an opcode has at most one form, and `of` inverts `opcode`. Signed operations are absent, as they share the opcode of the unsigned ones;
+//! the offset selects them later. A search is a match over constants, so it compiles to a jump.
 ghost use Rattle.std.specs.Prelude.{◌≡◌, ◌==◌, ◌<◌, find, IfSome};
 ghost use Rattle.bpf_insn.specs.Form.{bit, condition_code, form_opcode, opcode_of, operation_code};
 ghost use Rattle.bpf_insn.specs.Opcode.{form_of, immediate_use, offset_use, operand_form, reads_destination, row};

@@ -23,6 +23,7 @@ impl Word {
         let Some(form) = OpcodeForm::of(self.opcode) else {
             return Err(WordFault::UnknownOpcode);
         };
+        // A missing second word comes before the faults of the first one.
         if let OpcodeForm::WideLoad = form {
             return self.wide_load(next);
         }
@@ -94,6 +95,7 @@ impl Word {
             },
             OpcodeForm::StoreImmediate(size) => self.store_immediate(size),
             OpcodeForm::Store(size) => self.store(size),
+            // `instruction` has read it already.
             OpcodeForm::WideLoad => unreachable!(),
         }
     }

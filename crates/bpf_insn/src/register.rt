@@ -8,6 +8,7 @@ pub struct Register {
     ghost in_range: { number ≤ 10 },
 }
 
+// A type of its own, so an instruction that writes register 10 can't be built.
 /// A register that an instruction may write, by its number from 0 to 9. Register 10 is the frame pointer, which is read-only.
 #[derive(Clone, Copy, Debug, PartialEq, Eq)]
 pub struct WritableRegister {

@@ -1,7 +1,11 @@
 //! The rows of the instruction table, from which every list of instructions and every match over their operations is generated.
+//!
+//! Opcodes, mnemonics, flat forms and the machine's dispatch have to agree on every instruction, so they are generated from one table: a new
+//! operation, condition, byte order, load or store is a row here and a variant of its enum. The enums are written by hand, since a macro of the
+//! toolchain writes no type; the definitions are, too, since they say what a row must be.
 
 /// Passes the given tokens and the rows of the instruction table to a macro, which generates a list or a match from them. A row has what
-/// distinguishes its instructions from others of their kind, then their mnemonics (of `bpf_assembler`), then their flat forms (of `bpf_flat`).
+/// distinguishes its instructions from others of their kind, their mnemonics (of `bpf_assembler`), and their flat forms (of `bpf_flat_insn`).
 #[macro_export]
 macro_rules! instruction_rows {
     ($generate:ident!($($given:tt)*)) => {

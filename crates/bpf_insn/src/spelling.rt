@@ -34,6 +34,7 @@ impl Insn {
     pub fn reads_named(&self, register: u8) -> bool
         ensures { result ≡ reads_named self.now register }
     {
+        // What an instruction reads follows from its form, so there is no second list to keep in step.
         let form = self.form();
         (form.reads_destination() && register == self.first_register())
             || (form.row().uses_source && register == self.second_register())
@@ -114,6 +115,7 @@ impl Insn {
         ensures { result ≡ (first_word self.now).offset }
     {
         match *self {
+            // The discriminant is 16 above the code if the offset is 1, and 256 for each bit that a move takes.
             Insn::Alu { operation, .. } => operation as i16 / 16,
             Insn::MoveSignExtended { extension, .. } => extension as i16 / 256,
             Insn::JumpIf { offset, .. }

@@ -9,6 +9,7 @@ ghost use Rattle.std.proofs.Common.{rules};
 use crate::number_width::NumberWidth;
 use crate::order::Order;
 
+// All that the verifier knows of a number: neither bits nor signed bounds nor relations between registers, so that people can work out a verdict.
 /// The numbers from `low` to `high`, both included: unsigned, of 64 bits.
 #[derive(Clone, Copy, PartialEq, Eq)]
 pub struct Interval {

@@ -16,6 +16,7 @@ pub fn near_distances(x: Interval) -> Option<Offsets>
     ensures admits { (n : ℕ) → interval.Admits x n → IfSome result (λ distances. Admits distances (cast_signed w64 n)) }
     ensures proper { IfSome result IsProper }
 {
+    // An interval of unsigned numbers with distances both below and above 0 has all others, too.
     if x.high < 1 << 15 || x.low > u64::MAX - (1 << 15) {
         Some(Offsets {
             low: x.low.cast_signed() as i16,

@@ -1,4 +1,7 @@
 //! Narrowing at conditional jumps (RFC 9669, section 4.3).
+//!
+//! Only numbers that are compared as they are get narrowed. If a comparison first cuts or reads them as signed, an interval couldn't say what its
+//! result means for the numbers themselves.
 ghost use Rattle.std.specs.Prelude.{◌≡◌, ◌+◌, ◌-◌, ◌^◌, ℕ, min, IfSome, IsSomeAnd};
 ghost use Rattle.bpf_insn.specs.Arithmetic.{condition_holds};
 ghost use Rattle.bpf_kinds.specs.Interval.{IsProper, Admits, IsWithin};
@@ -195,6 +198,7 @@ fn without(x: Interval, y: Interval) -> Interval
     ensures low { result.low ≡ min (without x y).low (2 ^ 64 - 1) }
     ensures high { result.high ≡ (without x y).high }
 {
+    // If `y` may be several numbers, none of them is excluded for certain.
     if !y.is_single() {
         return x;
     }

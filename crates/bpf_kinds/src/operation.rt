@@ -1,4 +1,7 @@
 //! The results of operations on intervals of operands.
+//!
+//! Each function is equal to a row of a table in the definitions. Safety needs only that a result admits every number that may come of it; that
+//! people can work out a verdict beforehand needs the rows.
 ghost use Rattle.std.specs.Prelude.{◌≡◌, ◌<◌, ◌≤◌, ◌%◌};
 ghost use mir.Val.{bits};
 ghost use Rattle.bpf_insn.specs.Arithmetic.{operand_bits};

@@ -5,5 +5,6 @@ mod WordSlots
 mod WordMemory
 mod WordCalls
 mod WordWalk
+mod EntryLemmas
 mod StepHeld
 mod StartHeld

@@ -1,11 +1,10 @@
 -- A step of the bare machine on the words of a state that a run reaches: what it requires, and what it does.
-use Rattle.std.proofs.Common.{◌≡◌, ℕ, ◌+◌, ◌<◌, pos, List, length, get_or, Option, Some, None, IfSome, Result, Ok, Err, refl, sym, ap, ◌∙◌}
+use Rattle.std.proofs.Common.{◌≡◌, ℕ, ◌+◌, ◌<◌, List, length, get_or, Option, Some, None, IfSome, Result, Ok, Err, refl, sym, ap, ◌∙◌}
 use Rattle.std.proofs.Common.{subst}
 use Rattle.std.specs.Int.{cast_unsigned, w32}
 use Rattle.bpf_insn.specs.Code.{index_at, instruction_at, place_of, spelling}
 use Rattle.bpf_insn.specs.declared.instruction.Insn.{Insn}
-use Rattle.bpf_insn.specs.declared.instruction.Insn.TheVariants.{JumpIf, Jump, Call, Load}
-use Rattle.bpf_insn.specs.declared.instruction.JumpDistance.TheVariants.{Short}
+use Rattle.bpf_insn.specs.declared.instruction.Insn.TheVariants.{Call, Load}
 use Rattle.bpf_insn.specs.declared.value.Area.{Area}
 use Rattle.bpf_insn.specs.declared.value.Area.TheVariants.{Frame}
 use Rattle.bpf_insn.specs.declared.value.Value.{Value}
@@ -14,13 +13,11 @@ use Rattle.bpf_insn.proofs.SpanLemmas.{place_of-more}
 use Rattle.bpf_helpers.specs.Call.{MeetsSignature}
 use Rattle.bpf_helpers.specs.Helper.{by_number, signature}
 use Rattle.bpf_helpers.specs.declared.helper.Helper.{Helper}
-use Rattle.bpf_flat.specs.Flat.{AreFlatForms, JumpsTo, Keeps, area_of, insn_of, target_of, without_distance}
-use Rattle.bpf_flat.specs.declared.flat.FlatInsn.{FlatInsn}
-use Rattle.bpf_flat.proofs.FormLemmas.{place_found, instruction_at-place_of, within_code}
+use Rattle.bpf_flat_insn.specs.Flat.{JumpsTo, KeepsArea, area_of, insn_of, target_of}
+use Rattle.bpf_flat_insn.specs.declared.flat.FlatInsn.{FlatInsn}
 use Rattle.tl_segments.specs.Segment.{SegmentParts, IsSegment}
 use Rattle.bpf_meaning.specs.Checks.{◌>>=◌, Sound}
 use Rattle.bpf_meaning.specs.Effect as effect
-use Rattle.bpf_meaning.specs.Run.{IsSafe}
 use Rattle.bpf_meaning.specs.State.{register_value}
 use Rattle.bpf_meaning.specs.Step.{Configuration, Running, Exited, after, apply, next_of as next_configuration}
 use Rattle.bpf_meaning.specs.declared.cause.Cause.{Cause}
@@ -28,13 +25,13 @@ use Rattle.bpf_meaning.specs.declared.effect.Effect.{Effect}
 use Rattle.bpf_meaning.specs.declared.state.State.{State}
 use Rattle.bpf_meaning.proofs.CallLemmas.{IfPasses}
 use Rattle.bpf_meaning.proofs.WellFormedLemmas.{run_bytes, run_well_formed}
-use Rattle.bpf_verify.specs.Verified.{HasBaseAreas}
-use Rattle.bpf_verify.specs.Verified as verified
-use Rattle.bpf_machine.specs.Machine.{Does, HoldsState, IsReached, StepsTo}
+use Rattle.bpf_verify.specs.Verified.{AreVerified, IsPointerInto}
+use Rattle.bpf_machine.specs.Machine.{Does, HoldsState, IsReachable, IsReached, StepsTo}
 use Rattle.bpf_machine.specs.Words.{Continues, Ends, Holds, HoldsEffect, HoldsNext, MeetsCall, Next, PointsOnlyInto, Words, argument_words}
 use Rattle.bpf_machine.specs.Words.{next_of, next_words, words_of}
 use Rattle.bpf_machine.specs.declared.bare.Answer.{Answer}
 use Rattle.bpf_machine.specs.declared.bare.Bare.{Bare}
+use Rattle.bpf_machine.proofs.EntryLemmas.{place_found, instruction_at-place_of, within_code}
 use Rattle.bpf_machine.proofs.MachineLemmas.{is_never_stuck}
 use Rattle.bpf_machine.proofs.WordCalls.{call_meets}
 use Rattle.bpf_machine.proofs.WordWalk.{walk_held}
@@ -57,25 +54,20 @@ abbrev KnowsBase : (ℕ → Area) → Insn → Option Area → Type 0
 KnowsBase areas (Load format destination base offset) area = area ≡ Some (areas base.number)
 KnowsBase areas insn area = Unit {0}
 
-knows_base : (held : Value) (area : Option Area) → verified.IsPointerInto held area → area ≡ Some (pointed_into held)
+knows_base : (held : Value) (area : Option Area) → IsPointerInto held area → area ≡ Some (pointed_into held)
 knows_base held area points = points.into ∙ ap (λ (v : Value). Some (pointed_into v)) (sym points.is)
 
 -- the flat form of an instruction leads where the instruction does
 
-module _ (segment : SegmentParts) (areas : ℕ → Area) (words : Words) (next : ℕ) where
-  flat_leads : (target : ℕ) (insn : Insn) (area : Option Area) (flat : FlatInsn) → Keeps insn area target flat → KnowsBase areas insn area
-      → next_words segment areas words next target insn ≡ next_words segment (λ register. area_of flat) words next (target_of flat)
-      (without_distance insn)
+module _ (segment : SegmentParts) (areas : ℕ → Area) (words : Words) (next target : ℕ) where
+  flat_leads : (insn : Insn) (area : Option Area) (flat : FlatInsn) → KeepsArea insn area flat → KnowsBase areas insn area
+      → next_words segment areas words next target insn ≡ next_words segment (λ register. area_of flat) words next target insn
   unfolding next_words
-  flat_leads target (JumpIf condition width left right distance) area flat keeps knows =
-      ap (λ (t : ℕ). next_words segment areas words next t (JumpIf condition width left right (pos 0))) (sym keeps)
-  flat_leads target (Jump distance) area flat keeps knows =
-      ap (λ (t : ℕ). next_words segment areas words next t (Jump (Short (pos 0)))) (sym keeps)
-  flat_leads target (Load format destination base offset) None flat keeps knows = absurd (let no : ⊥ = cc in no)
-  flat_leads target (Load format destination base offset) (Some area) flat keeps knows =
+  flat_leads (Load format destination base offset) None flat keeps knows = absurd (let no : ⊥ = cc in no)
+  flat_leads (Load format destination base offset) (Some area) flat keeps knows =
       let same : areas base.number ≡ area_of flat = cc in
-      ap (λ (a : Area). next_words segment (λ register. a) words next (target_of flat) (Load format destination base offset)) same
-  flat_leads target insn area flat keeps knows = refl
+      ap (λ (a : Area). next_words segment (λ register. a) words next target (Load format destination base offset)) same
+  flat_leads insn area flat keeps knows = refl
 
 -- what passes all checks
 
@@ -98,7 +90,7 @@ meets_call code state words next (Some helper) {does} meets is =
     passes_first _ (effect.call_helper state helper) (effect.continue_with code next) does (meets helper) is
 
 calls_meet : (code : List Insn) (segment : SegmentParts) (state : State) (words : Words) (next : ℕ) (insn : Insn) {does : Effect}
-    → CallsMeet state words → effect.instruction_effect code segment state next insn ≡ Ok does → MeetsCall words (without_distance insn)
+    → CallsMeet state words → effect.instruction_effect code segment state next insn ≡ Ok does → MeetsCall words insn
 calls_meet code segment state words next (Call immediate) meets is =
     meets_call code state words next (by_number (cast_unsigned w32 immediate)) meets is
 calls_meet code segment state words next insn meets is = tt
@@ -109,7 +101,8 @@ sound_passes Holds (Ok first) (Ok y) x sound is = (y, refl, let same : first ≡
 sound_passes Holds (Ok first) (Err cause) x sound is = absurd sound
 sound_passes Holds (Err cause) other x sound is = absurd (let no : ⊥ = cc in no)
 
-module _ (code : List Insn) (segment : SegmentParts) (is : IsSegment segment) (safe : IsSafe code) where
+module _ {code : List Insn} {areas : List (Option Area)} {flats : List FlatInsn} (verified : AreVerified code areas flats)
+    (segment : SegmentParts) (is : IsSegment segment) where
   -- the instruction at the place of a state that a run reaches passes all its checks
   record IsExecuted (state : State) : Type 0 where
     insn : Insn
@@ -121,7 +114,7 @@ module _ (code : List Insn) (segment : SegmentParts) (is : IsSegment segment) (s
   stuck : (state : State) → IsReached code segment state → (cause : Cause) → effect.effect code segment state ≡ Err cause → ⊥
   unfolding after
   stuck state reached cause fails =
-      is_never_stuck code segment (length reached.run) state state.place cause (safe.never_stuck segment is)
+      is_never_stuck code segment (length reached.run) state state.place cause (verified.safe.never_stuck segment is)
       (record { run = reached.run; is_run = reached.is_run; ends = reached.ends; long = refl })
       (sym (ap (next_configuration segment state) fails))
 
@@ -139,65 +132,62 @@ module _ (code : List Insn) (segment : SegmentParts) (is : IsSegment segment) (s
       by_result (Err cause) fails = absurd (stuck state reached cause fails)
       by_result (Ok does) all = written_with state does all (instruction_at code state.place) refl all
 
-  module _ (areas : List (Option Area)) (flats : List FlatInsn) (known : HasBaseAreas code areas)
-      (forms : AreFlatForms code areas (length code) flats) where
-    abbrev leads_to : Bare → FlatInsn → Result Next Cause
-    leads_to bare flat = next_words segment (λ register. area_of flat) (words_of bare) (bare.at + 1) (target_of flat) (insn_of flat)
+  abbrev leads_to : Bare → FlatInsn → Result Next Cause
+  leads_to bare flat = next_words segment (λ register. area_of flat) (words_of bare) (bare.at + 1) (target_of flat) (insn_of flat)
 
-    -- what the flat form at the machine's entry leads to
-    pub record Leads (state : State) (bare : Bare) (flat : FlatInsn) : Type 0 where
-      pub next : Next
-      pub leads : leads_to bare flat ≡ Ok next
-      pub holds : HoldsNext code (after code segment state) next
-      pub meets : MeetsCall (words_of bare) (insn_of flat)
-      pub within : bare.at < length code
+  -- what the flat form at the machine's entry leads to
+  pub record Leads (state : State) (bare : Bare) (flat : FlatInsn) : Type 0 where
+    pub next : Next
+    pub leads : leads_to bare flat ≡ Ok next
+    pub holds : HoldsNext code (after code segment state) next
+    pub meets : MeetsCall (words_of bare) (insn_of flat)
 
-    base_known : (state : State) → IsReached code segment state → (index : ℕ) (insn : Insn) → index_at code state.place ≡ Some index
-        → instruction_at code state.place ≡ Some insn → KnowsBase (areas_in state) insn (get_or areas index None)
-    base_known state reached index (Load format destination base offset) at is_insn =
-        knows_base _ _ (known.bases segment is reached.run reached.is_run state reached.ends index
-        (Load format destination base offset) base.number at is_insn refl)
-    base_known state reached index insn at is_insn = tt
+  base_known : (state : State) → IsReached code segment state → (index : ℕ) (insn : Insn) → index_at code state.place ≡ Some index
+      → instruction_at code state.place ≡ Some insn → KnowsBase (areas_in state) insn (get_or areas index None)
+  base_known state reached index (Load format destination base offset) at is_insn =
+      knows_base _ _ (verified.bases.bases segment is reached.run reached.is_run state reached.ends index
+      (Load format destination base offset) base.number at is_insn refl)
+  base_known state reached index insn at is_insn = tt
 
-    leads_with : (state : State) (bare : Bare) (flat : FlatInsn) → IsReached code segment state → HoldsState code state bare
-        → flat ≡ get_or flats bare.at flat → IsExecuted state → Leads state bare flat
-    leads_with state bare flat reached holds there is_insn =
-        let begins = subst (λ (place : ℕ). instruction_at code place ≡ Some is_insn.insn) holds.at is_insn.is_insn in
-        let within = within_code code bare.at is_insn.insn begins in
-        let insn_is = instruction_at-place_of code bare.at is_insn.insn begins in
-        let form = forms.each bare.at is_insn.insn flat within insn_is there in
-        let at = subst (λ (place : ℕ). index_at code place ≡ Some bare.at) (sym holds.at) (place_found code bare.at within) in
-        let next_place = ap (λ (place : ℕ). place + length (spelling is_insn.insn)) holds.at
-        ∙ sym (place_of-more code bare.at is_insn.insn within insn_is) in
-        let whole = run_well_formed code segment reached.run state reached.is_run reached.ends in
-        let bytes = run_bytes code segment reached.run state is reached.is_run reached.ends in
-        let jumps = subst (λ (place : ℕ). JumpsTo code place is_insn.insn form.target) (sym holds.at) form.jumps in
-        let sound =
-        walk_held code segment state (words_of bare) holds.words (state.place + length (spelling is_insn.insn)) (bare.at + 1) form.target
-        next_place (areas_in state) is_insn.insn is whole bytes form.immediates
-        (λ register. points_there (register_value state register)) jumps in
-        let found = sound_passes (HoldsEffect code segment state) _ _ is_insn.does sound is_insn.passes in
-        let as_flat = flat_leads segment (areas_in state) (words_of bare) (bare.at + 1) form.target is_insn.insn
-        (get_or areas bare.at None) flat form.keeps (base_known state reached bare.at is_insn.insn at is_insn.is_insn) in
-        record {
-          next = found.0;
-          leads = ap (λ (insn : Insn). next_words segment (λ register. area_of flat) (words_of bare) (bare.at + 1) (target_of flat) insn)
-              form.represents ∙ sym as_flat ∙ found.1;
-          holds = subst (λ (configuration : Configuration). HoldsNext code configuration found.0) (sym is_insn.leads) found.2;
-          meets = subst (MeetsCall (words_of bare)) (sym form.represents)
-              (calls_meet code segment state (words_of bare) _ is_insn.insn
-              (call_meets segment state (words_of bare) is whole holds.words) is_insn.passes);
-          within = within;
-        }
+  leads_with : (state : State) (bare : Bare) (flat : FlatInsn) → IsReached code segment state → HoldsState code state bare
+      → flat ≡ get_or flats bare.at flat → IsExecuted state → Leads state bare flat
+  leads_with state bare flat reached holds there is_insn =
+      let begins = subst (λ (place : ℕ). instruction_at code place ≡ Some is_insn.insn) holds.at is_insn.is_insn in
+      let within = within_code code bare.at is_insn.insn begins in
+      let insn_is = instruction_at-place_of code bare.at is_insn.insn begins in
+      let form = verified.forms.each bare.at is_insn.insn flat within insn_is there in
+      let at = subst (λ (place : ℕ). index_at code place ≡ Some bare.at) (sym holds.at) (place_found code bare.at within) in
+      let next_place = ap (λ (place : ℕ). place + length (spelling is_insn.insn)) holds.at
+      ∙ sym (place_of-more code bare.at is_insn.insn within insn_is) in
+      let whole = run_well_formed code segment reached.run state reached.is_run reached.ends in
+      let bytes = run_bytes code segment reached.run state is reached.is_run reached.ends in
+      let jumps = subst (λ (place : ℕ). JumpsTo code place is_insn.insn (target_of flat)) (sym holds.at) form.jumps in
+      let sound =
+      walk_held code segment state (words_of bare) holds.words (state.place + length (spelling is_insn.insn)) (bare.at + 1) (target_of flat)
+      next_place (areas_in state) is_insn.insn is whole bytes form.immediates
+      (λ register. points_there (register_value state register)) jumps in
+      let found = sound_passes (HoldsEffect code segment state) _ _ is_insn.does sound is_insn.passes in
+      let as_flat = flat_leads segment (areas_in state) (words_of bare) (bare.at + 1) (target_of flat) is_insn.insn
+      (get_or areas bare.at None) flat form.keeps_area (base_known state reached bare.at is_insn.insn at is_insn.is_insn) in
+      record {
+        next = found.0;
+        leads = ap (λ (insn : Insn). next_words segment (λ register. area_of flat) (words_of bare) (bare.at + 1) (target_of flat) insn)
+            form.represents ∙ sym as_flat ∙ found.1;
+        holds = subst (λ (configuration : Configuration). HoldsNext code configuration found.0) (sym is_insn.leads) found.2;
+        meets = subst (MeetsCall (words_of bare)) (sym form.represents)
+            (calls_meet code segment state (words_of bare) _ is_insn.insn
+            (call_meets segment state (words_of bare) is whole holds.words) is_insn.passes);
+      }
 
-    pub forward_jump : (state : State) (bare : Bare) (flat : FlatInsn) → IsReached code segment state → HoldsState code state bare
-        → flat ≡ get_or flats bare.at flat → Leads state bare flat
-    forward_jump state bare flat reached holds there = leads_with state bare flat reached holds there (instruction_at_index state reached)
+  pub forward_jump : {bare : Bare} (flat : FlatInsn) (reachable : IsReachable code segment bare) → flat ≡ get_or flats bare.at flat
+      → Leads reachable.state bare flat
+  forward_jump {bare} flat reachable there =
+      leads_with reachable.state bare flat reachable.reached reachable.holds there (instruction_at_index reachable.state reachable.reached)
 
-    pub within_on : (state : State) (bare : Bare) → IsReached code segment state → HoldsState code state bare → bare.at < length code
-    within_on state bare reached holds =
-        let is_insn = instruction_at_index state reached in within_code code bare.at is_insn.insn
-        (subst (λ (place : ℕ). instruction_at code place ≡ Some is_insn.insn) holds.at is_insn.is_insn)
+  pub within_on : {bare : Bare} → IsReachable code segment bare → bare.at < length code
+  within_on {bare} reachable =
+      let is_insn = instruction_at_index reachable.state reachable.reached in within_code code bare.at is_insn.insn
+      (subst (λ (place : ℕ). instruction_at code place ≡ Some is_insn.insn) reachable.holds.at is_insn.is_insn)
 
 -- the machine has gone on, or has ended
 

@@ -27,7 +27,7 @@ use Rattle.bpf_kinds.proofs.ListLemmas.{set_both}
 use Rattle.bpf_kinds.proofs.ResultLemmas.{extend-proper, extend-admits, negate-proper, negate-admits, byte_swap-proper, byte_swap-admits}
 use Rattle.bpf_kinds.proofs.ResultLemmas.{immediate_operand-proper, wide_number-proper}
 use Rattle.bpf_insn.specs.Immediates.{HasImmediates}
-use Rattle.bpf_flat.specs.Flat.{JumpsTo}
+use Rattle.bpf_flat_insn.specs.Flat.{JumpsTo}
 use Rattle.tl_segments.specs.Segment.{SegmentParts, IsSegment}
 use Rattle.bpf_meaning.specs.Checks.{◌>>=◌, Sound}
 use Rattle.bpf_meaning.specs.Effect as effect

@@ -1,18 +1,26 @@
 //! The state of a bare machine, and what each instruction does to it.
+//!
+//! A register is 64 bits, a pointer is its offset, and nothing says which is which. The machine repeats no check of the verifier, which also says
+//! which area a load reads. So its steps are proved only for words that hold a state that the meaning of the program reaches. A method per form takes
+//! the operation and the width as arguments; `execute` passes constants, and all of this is inlined into its match, so each form compiles to straight
+//! code. Only calls are kept out of it.
+//!
+//! Always: the machine is never cleared. `restart` writes what a program may read first; whatever else is left from the segment before is written by
+//! an accepted program before it is read. It serves all segments of a run, and nothing allocates.
 ghost use Rattle.std.specs.Prelude.{◌≡◌, ◌≤◌, ◌≤ℤ◌, ◌+◌, ℕ, pos, List, length, Ok, IsOk, unsigned_abs};
 ghost use Rattle.std.specs.Int.{bytes_low_first};
 ghost use Rattle.tl_segments.specs.Segment.{SegmentParts};
 ghost use Rattle.bpf_insn.specs.Memory.{load_length, store_length};
 ghost use Rattle.bpf_insn.specs.declared.instruction.Insn.{Insn};
 ghost use Rattle.bpf_insn.specs.declared.value.Area.{Area};
-ghost use Rattle.bpf_flat.specs.Flat.{alu_immediate, alu_register, jump_immediate, jump_register, load, move_extended, store_immediate, store_register};
+ghost use Rattle.bpf_flat_insn.specs.Flat.{alu_immediate, alu_register, jump_immediate, jump_register, load, move_extended, store_immediate, store_register};
 ghost use Rattle.bpf_helpers.specs.Call.{MeetsSignature, write};
 ghost use Rattle.bpf_helpers.specs.Helper.{signature};
 ghost use Rattle.bpf_meaning.specs.State.{start};
 ghost use Rattle.bpf_machine.specs.Machine.{IsReachable};
 ghost use Rattle.bpf_machine.specs.Words.{Ends, Continues, Holds, MeetsCall, address, argument_word, argument_words, call_helper, end_of, loaded, next_words, with_word, word_in, words_of};
 
-use bpf_flat::{
+use bpf_flat_insn::{
     JumpWithImmediate, JumpWithRegister, LoadOperands, StoreImmediateOperands,
     StoreRegisterOperands, WithImmediate, WithRegister,
 };
@@ -36,6 +44,7 @@ pub struct Answer {
 }
 
 /// Registers 0 to 10 (RFC 9669, section 3.1). Each holds a number, or a pointer as its offset in two's complement.
+/// Part of the library's fixed interface.
 #[derive(Clone, Copy)]
 pub struct Registers {
     pub words: [u64; REGISTERS],
@@ -44,7 +53,7 @@ pub struct Registers {
 /// A running program, as bare words.
 #[derive(Drop)]
 pub struct Bare {
-    /// The index of the next instruction's entry, from 0.
+    /// The entry of the next instruction: its index, from 0.
     pub at: usize,
     pub registers: Registers,
     /// The program's own memory, by offset from 0.
@@ -78,6 +87,7 @@ impl Bare {
         ensures entry { self.new.at ≡ 0 }
         ensures words { Holds start (words_of self.new) }
     {
+        // Nothing else is read before it is written: the verifier refuses any program that would.
         self.at = 0;
         self.registers.words[1] = 0;
         self.registers.words[10] = FRAME_LENGTH as u64;
@@ -372,6 +382,7 @@ impl Bare {
     {
         match Helper::by_number(immediate.cast_unsigned()) {
             Some(helper) => self.call(segment, helper),
+            // The verifier refuses unknown functions.
             None => unreachable!(),
         }
         next

@@ -4,7 +4,7 @@ ghost use Rattle.bpf_insn.specs.Code.{place_of};
 ghost use Rattle.bpf_insn.specs.declared.instruction.Insn.{Insn};
 ghost use Rattle.bpf_insn.specs.declared.value.Area.{Area};
 ghost use Rattle.bpf_insn.specs.Immediates.{HasImmediates};
-ghost use Rattle.bpf_flat.specs.Flat.{JumpsTo};
+ghost use Rattle.bpf_flat_insn.specs.Flat.{JumpsTo};
 ghost use Rattle.tl_segments.specs.Segment.{SegmentParts, IsSegment};
 ghost use Rattle.bpf_meaning.specs.Checks.{Sound};
 ghost use Rattle.bpf_meaning.specs.Effect.{instruction_effect};

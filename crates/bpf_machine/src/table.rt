@@ -1,10 +1,13 @@
 //! One instruction on bare words: one row per flat form.
+//!
+//! A match over flat forms compiles to one jump, as an interpreter in C has it; the nested enums of `Insn` would take a second one. Instructions are
+//! neither fused nor dropped nor reordered, so an entry is an instruction of the program.
 ghost use Rattle.std.specs.Prelude.{◌≡◌, None, Ok, IsOk};
-ghost use Rattle.bpf_flat.specs.Flat.{area_of, insn_of, target_of};
+ghost use Rattle.bpf_flat_insn.specs.Flat.{area_of, insn_of, target_of};
 ghost use Rattle.bpf_machine.specs.Words.{MeetsCall, next_of, next_words, words_of};
 
 use crate::bare::Bare;
-use bpf_flat::FlatInsn;
+use bpf_flat_insn::FlatInsn;
 use bpf_insn::Width::{Bits32, Bits64};
 use bpf_insn::{
     ByteOrder, Condition, LoadFormat, Operation, SignExtension, StoreSize, SwapWidth,
@@ -54,7 +57,7 @@ macro_rules! dispatch {
                 FlatInsn::$si(o) => Some($bare.store_immediate($segment, StoreSize::$size, *o, $next)),
                 FlatInsn::$sr(o) => Some($bare.store_register($segment, StoreSize::$size, *o, $next)),
             )*
-            FlatInsn::Jump { target } => Some(*target as usize),
+            FlatInsn::Jump { target, .. } => Some(*target as usize),
             FlatInsn::Call { immediate } => Some($bare.call_number($segment, *immediate, $next)),
             FlatInsn::Exit => None,
             FlatInsn::WideLoad { destination, immediate, next_immediate } => {
@@ -67,7 +70,7 @@ macro_rules! dispatch {
 /// Executes an instruction and returns the entry that it leads to: `next`, the entry after it, or the entry that it jumps to. Returns `None` at the
 /// end of the program.
 #[inline(always)]
-#[tactic(auto, unfolding(bpf_flat::specs::Flat::parts_of))]
+#[tactic(auto, unfolding(bpf_flat_insn::specs::Flat::parts_of))]
 pub(crate) fn execute<A: Allocator>(
     bare: &mut Bare,
     segment: &Segment<A>,

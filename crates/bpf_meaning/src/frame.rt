@@ -71,6 +71,7 @@ impl Frame {
         requires { slot < SLOTS }
         ensures { result ≡ slot_value self.now slot }
     {
+        // The marks tell a number from a pointer, so a slot needs no tag.
         match (self.load(SLOT_LENGTH * slot, SLOT_LENGTH), self.slots[slot]) {
             (Some(number), _) => Value::Number(number),
             (None, Some(pointer)) => Value::Pointer(pointer),
@@ -96,6 +97,7 @@ impl Frame {
         ensures { self.new ≡ set_slot_pointer self.old slot pointer }
     {
         let at = SLOT_LENGTH * slot;
+        // A pointer has no bytes, so no program can see how it is stored, or make one.
         self.marks[at..at + SLOT_LENGTH].fill(false);
         self.slots[slot] = Some(pointer);
     }
@@ -136,6 +138,7 @@ impl Frame {
         ensures score { score.new ≡ (call helper segment.now arguments
             (written_bytes (bytes_read (frame_use (signature helper).shape) arguments self.old.bytes)) score.old).score }
     {
+        // Without its marks, since the machine's frame has none.
         let answer = call(helper, arguments, segment, &mut self.bytes, score);
         if let FrameUse::Writes = helper.signature().shape.frame_use() {
             // For the proof only: `bytes` states that the segment's names have their full length, which determines the count of written bytes.

@@ -88,6 +88,7 @@ fn pointer_in(state: &State, register: u8) -> Result<Pointer, Cause>
 fn offset_from(pointer: Pointer, offset: i16) -> i32
     ensures { result ≡ pointer.offset +ℤ offset }
 {
+    // This sum is no pointer: out of bounds it is 44 OutOfBounds, never 42 LeavesArea.
     i32::from(pointer.offset) + i32::from(offset)
 }
 
@@ -120,6 +121,7 @@ pub(crate) fn store_change(
     ensures { result ≡ store_change state.now size base.number offset source }
 {
     let pointer = pointer_in(state, base.number)?;
+    // The area is checked before the source is read, and the bounds come last.
     let Area::Frame = pointer.area else {
         return Err(Cause::WritesRecord);
     };
@@ -132,6 +134,7 @@ fn store_at(offset: i32, size: StoreSize, value: Value) -> Result<Change, Cause>
     ensures { result ≡ store_at offset size value }
 {
     match value {
+        // `operand` refuses an empty register, so this isn't reached.
         Value::Empty => Err(Cause::StoresPointer),
         Value::Number(number) => store_number(offset, size, number),
         Value::Pointer(pointer) => store_pointer(offset, size, pointer),
@@ -143,6 +146,7 @@ fn store_pointer(offset: i32, size: StoreSize, pointer: Pointer) -> Result<Chang
     ensures { result ≡ store_pointer offset size pointer }
 {
     let count = store_length(size);
+    // Whether the bytes would be a slot comes before the bounds, also for a negative offset: 47 before 44.
     let Some(slot) = slot_at(offset.unsigned_abs() as usize, count) else {
         return Err(Cause::StoresPointer);
     };

@@ -13,6 +13,7 @@ pub fn instruction_reads_record_alone(insn: Insn) -> bool
     match insn {
         Insn::Call { immediate } => {
             let helper = Helper::by_number(immediate.cast_unsigned());
+            // A call of an unknown function is stuck on every segment.
             helper.is_none_or(|helper| helper.reads_record_alone())
         }
         _ => true,

@@ -102,6 +102,7 @@ impl State {
     {
         let answer = self.frame.call(helper, arguments, segment, &mut self.score);
         self.registers[0] = Value::Number(answer);
+        // RFC 9669 lets a call overwrite registers 1 to 5, also one without arguments.
         self.registers[1..6].fill(Value::Empty);
     }
 }

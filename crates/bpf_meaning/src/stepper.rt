@@ -1,4 +1,6 @@
 //! Steps and traces.
+//!
+//! It isn't named `step`, because a module can't share a name with an item beside it.
 ghost use Rattle.std.specs.Prelude.{◌≡◌};
 ghost use Rattle.bpf_meaning.specs.Run.{IsTraced};
 ghost use Rattle.bpf_meaning.specs.Step.{after, configuration_of, UnchangedAtEnd};
@@ -41,6 +43,7 @@ pub fn step<A: Allocator, B: Allocator>(
     ensures next { configuration_of result state.new ≡ after code.now segment.now state.old }
     ensures ended { UnchangedAtEnd result state.old state.new }
 {
+    // All checks come before the effect is applied, so a stuck step leaves the state as it was.
     match effect(code, segment, state) {
         Ok(effect) => state.apply(segment, effect),
         Err(cause) => Outcome::Stuck {

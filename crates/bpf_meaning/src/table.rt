@@ -1,4 +1,7 @@
 //! The instruction table: the checks of each instruction in order, and its effect.
+//!
+//! The order of an instruction's checks decides which cause a program is refused for. The verifier's table and the machine's are proved equal to the
+//! same definition, so a change here is one of all three.
 ghost use Rattle.std.specs.Prelude.{◌≡◌, ◌<◌};
 ghost use Rattle.bpf_insn.specs.declared.code.TheConstants.{MAX_WORDS};
 ghost use Rattle.bpf_meaning.specs.Effect.{effect, values};
@@ -90,6 +93,7 @@ fn instruction_effect<A: Allocator, B: Allocator>(
         } => {
             let x = state.read(left.number)?;
             let y = operand(state, right)?;
+            // The target of a jump that isn't taken is no fault of the run. Only `trace` meets one that the verifier refuses.
             if compare(condition, width, x, y)? {
                 jump(code, state.place, i32::from(offset))
             } else {

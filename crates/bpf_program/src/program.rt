@@ -1,12 +1,11 @@
 //! Accepted programs: their bytes encode code that is safe to run.
+//!
+//! First the bytes, then the jumps, then what instructions do: each check relies on those before it, and reports the first fault of its own.
 ghost use Rattle.std.specs.Prelude.{◌≡◌, List, IfOk, IfErr, OnOk};
 ghost use Rattle.bpf_insn.specs.declared.instruction.Insn.{Insn};
 ghost use Rattle.bpf_program.specs.Program.{IsSafeProgram, IsProgramFault, IsSafeCode, IsFaultOfCode};
 ghost use Rattle.bpf_program.specs.ProgramFault.{of_code, of_flow, of_verify};
-ghost use Rattle.bpf_program.specs.ProgramFault as program_fault;
-ghost use Rattle.refusals.specs.Refusal.{line as refusal_line};
 
-use arrayvec::ArrayString;
 use bpf_flow::{Flow, FlowFault};
 use bpf_insn::{Code, CodeFault, decode};
 use bpf_verify::{Verified, VerifyFault, check, verify};
@@ -35,6 +34,7 @@ impl From<CodeFault> for ProgramFault {
 
     fn from(fault: CodeFault) -> ProgramFault {
         match fault {
+            // Running out of memory is one variant, whichever step it happens in.
             CodeFault::Memory => ProgramFault::Memory,
             fault => ProgramFault::Code(fault),
         }
@@ -57,15 +57,6 @@ impl From<VerifyFault> for ProgramFault {
             VerifyFault::Memory => ProgramFault::Memory,
             fault => ProgramFault::Verify(fault),
         }
-    }
-}
-
-impl ProgramFault {
-    /// Returns the refusal's line of text, such as `refused 44 place 2 OutOfBounds`, without a line terminator. It doesn't allocate.
-    pub fn line(&self) -> ArrayString<64>
-        ensures { result.bytes ≡ refusal_line (program_fault.refusal self.now) }
-    {
-        Fault::line(self)
     }
 }
 

@@ -133,7 +133,10 @@ fn runs_to<A: Allocator, B: Allocator>(
     is_answer(Some(run(verified, segment)), exit)
         && is_answer(Some(run_in(&mut bare, verified, segment)), exit)
         && is_answer(Some(run_in(&mut bare, verified, segment)), exit)
-        && is_answer(stepped(verified, segment, verified.entries().len()).1, exit)
+        && is_answer(
+            stepped(verified, segment, verified.flat_forms().len()).1,
+            exit,
+        )
 }
 
 /// Returns whether there is an answer, and it's the one of this exit.
@@ -160,33 +163,22 @@ fn traces_to<A: Allocator, B: Allocator>(
     false
 }
 
-/// Returns whether a code that is accepted has an entry and a flat form for each of these instructions, in order.
-fn has_entries<A: Allocator, B: Allocator>(verified: &Verified<A>, code: &Code<B>) -> bool {
-    let (entries, instructions) = (verified.entries(), code.instructions());
-    for (entry, insn) in entries.iter().zip(instructions) {
-        if entry.insn != *insn {
-            return false;
-        }
-    }
-    (entries.len(), verified.flat_forms().len()) == (instructions.len(), instructions.len())
-}
-
 /// Returns whether the bases of the instructions point into a row's areas, if the row has any.
 fn has_areas<A: Allocator>(verified: &Verified<A>, areas: Option<&str>) -> bool {
     let Some(areas) = areas else {
         return true;
     };
-    for (entry, letter) in verified.entries().iter().zip(areas.bytes()) {
-        let area = match entry.area {
+    for (area, letter) in verified.areas().iter().zip(areas.bytes()) {
+        let found = match area {
             Some(Area::Record) => b'R',
             Some(Area::Frame) => b'F',
             None => b'-',
         };
-        if area != letter {
+        if found != letter {
             return false;
         }
     }
-    areas.len() == verified.entries().len()
+    areas.len() == verified.areas().len()
 }
 
 /// What a row says about a program.
@@ -225,7 +217,7 @@ fn is_right(
     let code = decode(heap, bytes).ok()?;
     let verified = verified(heap, bytes, "").ok()?;
     heap.refuse(1);
-    let is_found = has_entries(&verified, &code)
+    let is_found = verified.flat_forms().len() == code.instructions().len()
         && has_areas(&verified, wanted.areas)
         && verified.reads_record_alone() == wanted.reads_record_alone;
     let is_answered = runs_to(&verified, segment, wanted.exit)

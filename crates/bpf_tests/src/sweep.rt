@@ -1,6 +1,6 @@
 //! Calls that allocate, with a failure injected into each allocation.
 use bpf_assembler::assemble;
-use bpf_flat::flat_forms;
+use bpf_flat_insn::flat_forms;
 use bpf_flow::Flow;
 use bpf_insn::{Area, Code, CodeBuilder, CodeFault, Insn, Register, decode, encode};
 use bpf_text::{SourceFault, assemble_source, disassemble, disassemble_program};

@@ -30,6 +30,7 @@ pub fn assemble_source<A: Allocator + Copy>(
     ensures refused { (fault : SourceFault) → IsSourceFault source.now fault → fault ≢ Text Memory
         → IsErrAnd result (λ given. (given ≡ fault) ⊎ (given ≡ Text Memory)) }
 {
+    // A source that isn't UTF-8 is no text: it has no line that a refusal could name.
     let Ok(text) = str::from_utf8(source) else {
         return Err(SourceFault::NotUtf8);
     };

@@ -1,4 +1,11 @@
 //! The disassembler: code to text.
+//!
+//! One form, which the assembler reads back as the same words. It writes no labels, as their names aren't in a program. Immediates are signed, also
+//! those of calls and of 32-bit comparisons, distances and offsets have their sign, and a wide load's number has 16 hexadecimal digits, so each field
+//! has one form and a difference between two listings is a difference between two programs.
+//!
+//! Always: assembling the text of a code yields the code, and a line has one instruction. `push_instruction` is public because listings (`explain`)
+//! show the same text. The mnemonics are those of the table in `bpf_insn`, so nothing here names an operation.
 ghost use Rattle.std.specs.Prelude.{◌≡◌, ◌<◌, [], ◌∷◌, ◌++◌, OnOk, IfOk, codes};
 ghost use Rattle.std.specs.Char.{digit_char};
 ghost use Rattle.std.specs.Fmt.{signed_decimal};
@@ -181,6 +188,7 @@ fn push_call<A: Allocator>(text: &mut String<A>, immediate: i32) -> Result<(), A
     ensures fits { OnOk result (IsWithin limit_of_32_bits immediate) }
 {
     text.push_str(" ")?;
+    // Signed, though a helper function's number isn't, so that each immediate has one form.
     push_decimal(text, immediate)
 }
 

@@ -1,12 +1,11 @@
 -- The areas of bases hold in every run of an accepted code.
-use Rattle.std.proofs.Common.{◌≡◌, ℕ, zero, suc, ◌+◌, ◌-◌, ◌<◌, ◌≤◌, nat_lt, IfSome, false, List, [], ◌∷◌, ◌++◌, ◌⊎◌, ◌==◌, length, get_or}
+use Rattle.std.proofs.Common.{◌≡◌, ℕ, zero, suc, ◌+◌, ◌-◌, ◌<◌, ◌≤◌, IfSome, List, [], ◌∷◌, ◌++◌, ◌⊎◌, length, get_or}
 use Rattle.std.proofs.Common.{Option, Some, None, option_map, option_and_then, Result, Ok, Err, is_some, refl, sym, ap, ◌∙◌, subst, arith}
 use Rattle.std.proofs.Common.{inl, inr}
 use Rattle.std.specs.Prelude.{slice_get}
 use Rattle.std.proofs.lemmas.Bool.{cases_lt}
-use Rattle.std.proofs.lemmas.Bool.Decides.{nat_tests}
 use Rattle.std.proofs.lemmas.Option.{get_or_from_slice_get, none-some}
-use Rattle.bpf_insn.proofs.PlaceLemmas.{index_within, instruction_at-index, instruction_at-inside, instruction_at-after}
+use Rattle.bpf_insn.proofs.PlaceLemmas.{index_at-after, index_within, instruction_at-index, instruction_at-inside, instruction_at-after}
 use Rattle.bpf_insn.proofs.PlaceLemmas.{instruction_within, word_count-cons}
 use Rattle.bpf_insn.specs.Code.{index_at, instruction_at, spelling, word_count}
 use Rattle.bpf_insn.specs.declared.instruction.Insn.{Insn}
@@ -16,28 +15,22 @@ use Rattle.bpf_insn.specs.declared.value.Area.{Area}
 use Rattle.bpf_insn.specs.declared.value.Value.{Value}
 use Rattle.bpf_insn.specs.declared.value.Value.TheVariants as value
 use Rattle.bpf_insn.specs.Immediates.{HasImmediates, HaveImmediates}
-use Rattle.bpf_flat.specs.Flat.{AreFlatForms}
-use Rattle.bpf_flat.specs.declared.flat.FlatInsn.{FlatInsn}
 use Rattle.bpf_flow.specs.Flow.{IsForward}
 use Rattle.bpf_kinds.specs.Kind as kind
 use Rattle.bpf_kinds.specs.declared.kind.Kind.{Kind}
 use Rattle.bpf_kinds.specs.declared.kind.Kind.TheVariants.{Record, Frame}
 use Rattle.bpf_meaning.specs.Checks.{◌>>=◌}
-use Rattle.bpf_meaning.specs.Run.{IsRun, end_of}
 use Rattle.bpf_meaning.specs.State.{register_value}
-use Rattle.bpf_meaning.specs.Step.{Configuration, Running}
 use Rattle.bpf_meaning.specs.Walk as walk_of
 use Rattle.bpf_meaning.specs.Walk.{walk, load_value}
 use Rattle.bpf_meaning.specs.declared.cause.Cause.{Cause}
 use Rattle.bpf_meaning.specs.declared.state.State.{State}
-use Rattle.tl_segments.specs.Segment as segments
 use Rattle.bpf_verify.specs.Annotation.{Annotation, IsAccepted, area_of, area_of_kind, areas_from}
 use Rattle.bpf_verify.specs.LiftedState.{LiftedState, Unreached, Reached, Edges, Admits, kind_of}
 use Rattle.bpf_verify.specs.Transfer.{kinds, only_pointers, pointers_in, read_kind, transfer}
-use Rattle.bpf_verify.specs.Verified.{HasBaseAreas, IsPointerInto, areas_in, base_of, entries_of, instructions_in}
+use Rattle.bpf_verify.specs.Verified.{HasBaseAreas, IsPointerInto, base_of}
 use Rattle.bpf_verify.specs.declared.memory.Pointers.{Pointers}
 use Rattle.bpf_verify.specs.declared.abstract_state.AbstractState.{AbstractState}
-use Rattle.bpf_verify.specs.declared.verified.Entry.{Entry}
 use Rattle.bpf_verify.proofs.SoundRuns.{IsAdmitted, end_admitted}
 use Rattle.bpf_verify.proofs.SoundSteps.{IsVerified}
 
@@ -71,13 +64,6 @@ areas_from-same old new end place (insn ∷ code) same ends =
 
 -- the area of the instruction at a place, by its index
 
-index_at-rest : (first : Insn) (code : List Insn) (place : ℕ) → length (spelling first) ≤ suc place
-    → index_at (first ∷ code) (suc place) ≡ option_map (λ (i : ℕ). suc i) (index_at code (suc place - length (spelling first)))
-index_at-rest first code place past =
-    let not_first : (suc place == 0) ≡ false = grind (arith, nat_tests) in
-    let beyond : nat_lt (suc place) (length (spelling first)) ≡ false = grind (arith, nat_tests) in
-    rw (not_first, beyond) refl
-
 get_or-next : {A : Type 0} (x : A) (xs : List A) (d y : A) (found : Option ℕ) (index : ℕ) → option_map (λ (i : ℕ). suc i) found ≡ Some index
     → ((i : ℕ) → found ≡ Some i → get_or xs i d ≡ y) → get_or (x ∷ xs) index d ≡ y
 get_or-next x xs d y None index is each = absurd (none-some index is)
@@ -99,7 +85,7 @@ area_at annotation from (first ∷ code) (suc place) index insn is is_insn =
           let left : ℕ = suc place - length (spelling first) in
           let sum : from + length (spelling first) + left ≡ from + suc place = omega arith in
           get_or-next _ (areas_from annotation (from + length (spelling first)) code) None _ (index_at code left) index
-          (sym (index_at-rest first code place past) ∙ is)
+          (sym (index_at-after first code (suc place) past) ∙ is)
           (λ i found. area_at annotation (from + length (spelling first)) code left i insn found
           (sym (instruction_at-after first code (suc place) past) ∙ is_insn) ∙ ap (λ (p : ℕ). area_of (annotation p) insn) sum)
     ]
@@ -167,28 +153,18 @@ areas_hold code areas forward immediates accepted = record {
 
 -- The immediates of a code.
 
-element_at : {X : Type 0} (xs : List X) (index : ℕ) → index < length xs → (x : X) × (x ≡ get_or xs index x)
-element_at [] index within = absurd (omega arith)
-element_at (x ∷ xs) zero within = (x, refl)
-element_at (x ∷ xs) (suc index) within = element_at xs index (omega arith)
-
-element_found : {X : Type 0} (xs : List X) (index : ℕ) (x : X) → slice_get xs index ≡ Some x → x ≡ get_or xs index x
-element_found [] index x found = absurd (let no : ⊥ = cc in no)
-element_found (y ∷ xs) zero x found = let same : y ≡ x = cc in sym same
-element_found (y ∷ xs) (suc index) x found = element_found xs index x found
-
 -- those of the instructions before an index
 abbrev pub HaveImmediatesBefore : List Insn → ℕ → Type 0
 HaveImmediatesBefore code count = (index : ℕ) (insn : Insn) → index < count → slice_get code index ≡ Some insn → HasImmediates insn
 
-pub all_have_immediates : (code : List Insn) → HaveImmediatesBefore code (length code) → HaveImmediates code
-all_have_immediates code have place insn is_insn =
+pub all_have_immediates : (code : List Insn) (count : ℕ) → length code ≤ count → HaveImmediatesBefore code count → HaveImmediates code
+all_have_immediates code count all have place insn is_insn =
     by_index (index_at code place) (index_within code place) (sym (instruction_at-index code place) ∙ is_insn)
   where
     by_index : (found : Option ℕ) → IfSome found (λ index. index < length code) → option_and_then (slice_get code) found ≡ Some insn
         → HasImmediates insn
     by_index None within is = absurd (let no : ⊥ = cc in no)
-    by_index (Some index) within is = have index insn within is
+    by_index (Some index) within is = have index insn (omega arith) is
 
 pub one_more_has_immediates : (code : List Insn) (count : ℕ) (next : Insn) → next ≡ get_or code count next → HasImmediates next
     → HaveImmediatesBefore code count → HaveImmediatesBefore code (count + 1)
@@ -201,38 +177,3 @@ one_more_has_immediates code count next is has have = λ index insn below found.
         let here : count ≡ index = omega arith in
         let at_index = subst (λ (at : ℕ). next ≡ get_or code at next) here is in
         subst HasImmediates (at_index ∙ get_or_from_slice_get code index insn next found) has
-
-pub immediates_of_forms : (code : List Insn) (areas : List (Option Area)) (flats : List FlatInsn)
-    → AreFlatForms code areas (length code) flats → HaveImmediates code
-immediates_of_forms code areas flats forms = all_have_immediates code (λ index insn below found.
-    let flat = element_at flats index (let count = forms.count_is in omega arith) in
-    (forms.each index insn flat.0 below (element_found code index insn found) flat.1).immediates)
-
--- Entries.
-
--- their instructions and their areas
-
-pub instructions_in-entries_of : (code : List Insn) (areas : List (Option Area)) → length areas ≡ length code
-    → instructions_in (entries_of code areas) ≡ code
-instructions_in-entries_of [] areas same = refl
-instructions_in-entries_of (insn ∷ code) [] same = absurd (omega arith)
-instructions_in-entries_of (insn ∷ code) (area ∷ areas) same =
-    ap (λ (rest : List Insn). insn ∷ rest) (instructions_in-entries_of code areas (omega arith))
-
-pub areas_in-entries_of : (code : List Insn) (areas : List (Option Area)) → length areas ≡ length code
-    → areas_in (entries_of code areas) ≡ areas
-areas_in-entries_of [] [] same = refl
-areas_in-entries_of (insn ∷ code) (area ∷ areas) same = ap (λ (rest : List (Option Area)). area ∷ rest)
-    (areas_in-entries_of code areas (omega arith))
-areas_in-entries_of code areas same = absurd (omega arith)
-
-pub entries_of-parts : (entries : List Entry) → entries ≡ entries_of (instructions_in entries) (areas_in entries)
-entries_of-parts [] = refl
-entries_of-parts (entry ∷ rest) = ap (λ (others : List Entry). entry ∷ others) (entries_of-parts rest)
-
--- no instructions or no areas are left
-pub entries_of-end : (code : List Insn) (areas : List (Option Area)) → (code ≡ []) ⊎ (areas ≡ []) → entries_of code areas ≡ []
-entries_of-end [] areas ends = refl
-entries_of-end (insn ∷ code) [] ends = refl
-entries_of-end (insn ∷ code) (area ∷ areas) (inl none) = absurd (let no : ⊥ = cc in no)
-entries_of-end (insn ∷ code) (area ∷ areas) (inr none) = absurd (let no : ⊥ = cc in no)

@@ -1,5 +1,5 @@
 -- Checks of values are monotone: a check that passes on a higher kind passes on a lower one, with a lower result.
-use Rattle.std.proofs.Common.{◌≡◌, ℕ, ◌≤◌, ◌≤ℤ◌, Option, Some, None, Ok, refl, sym, subst, arith}
+use Rattle.std.proofs.Common.{◌≡◌, ℕ, ◌≤ℤ◌, Option, Some, None, Ok, refl, sym, subst, arith}
 use Rattle.bpf_insn.specs.declared.instruction.Operation.{Operation}
 use Rattle.bpf_insn.specs.declared.instruction.Width.{Width}
 use Rattle.bpf_insn.specs.declared.value.Area.{Area}

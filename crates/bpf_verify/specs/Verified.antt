@@ -1,5 +1,5 @@
 -- Verified codes, and the areas that their loads and stores reach.
-use Rattle.std.specs.Prelude.{◌≡◌, ℕ, List, [], ◌∷◌, length, map, get_or, Option, Some, None}
+use Rattle.std.specs.Prelude.{◌≡◌, ℕ, List, length, get_or, Option, Some, None}
 use Rattle.bpf_insn.specs.Code.{index_at, instruction_at}
 use Rattle.bpf_insn.specs.declared.instruction.Insn.{Insn}
 use Rattle.bpf_insn.specs.declared.instruction.Insn.TheVariants.{Load, StoreImmediate, Store}
@@ -9,11 +9,12 @@ use Rattle.bpf_insn.specs.declared.value.Value.{Value}
 use Rattle.bpf_insn.specs.declared.value.Value.TheVariants.{Pointer}
 use Rattle.tl_segments.specs.Segment as segments
 use Rattle.tl_segments.specs.Segment.{IsSegment}
-use Rattle.bpf_meaning.specs.Run.{IsRun, end_of}
+use Rattle.bpf_flat_insn.specs.Flat.{AreFlatForms}
+use Rattle.bpf_flat_insn.specs.declared.flat.FlatInsn.{FlatInsn}
+use Rattle.bpf_meaning.specs.Run.{IsRun, IsSafe, end_of}
 use Rattle.bpf_meaning.specs.State.{register_value}
 use Rattle.bpf_meaning.specs.Step.{Configuration, Running}
 use Rattle.bpf_meaning.specs.declared.state.State.{State}
-use Rattle.bpf_verify.specs.declared.verified.Entry.{Entry}
 
 -- the contents of a Verified: its instructions, and the area of each one's base
 pub record Contents : Type 0 where
@@ -41,14 +42,8 @@ pub record HasBaseAreas (code : List Insn) (areas : List (Option Area)) : Type 0
       → (index : ℕ) (insn : Insn) (base : ℕ) → index_at code state.place ≡ Some index → instruction_at code state.place ≡ Some insn → base_of insn ≡ Some base
       → IsPointerInto (register_value state base) (get_or areas index None)
 
--- instructions paired with their areas
-abbrev pub entries_of : List Insn → List (Option Area) → List Entry
-entries_of (insn ∷ code) (area ∷ areas) = record { insn = insn; area = area } ∷ entries_of code areas
-entries_of code areas = []
-
--- the parts of such entries
-abbrev pub instructions_in : List Entry → List Insn
-instructions_in entries = map (λ entry. entry.insn) entries
-
-abbrev pub areas_in : List Entry → List (Option Area)
-areas_in entries = map (λ entry. entry.area) entries
+-- the flat forms of a code that is safe to run, with the areas of its bases
+pub record AreVerified (code : List Insn) (areas : List (Option Area)) (flats : List FlatInsn) : Type 0 where
+  pub safe : IsSafe code
+  pub bases : HasBaseAreas code areas
+  pub forms : AreFlatForms code areas (length code) flats

@@ -172,6 +172,7 @@ impl AbstractState {
         ensures proper { IsProperState self.new }
     {
         self.registers[0] = Kind::Number(answer);
+        // As in the meaning: a call may overwrite them.
         self.registers[1..6].fill(Kind::Nothing);
     }
 

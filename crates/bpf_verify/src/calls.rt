@@ -114,6 +114,7 @@ fn lend_bytes(second: Kind, third: Kind) -> Result<LentBytes, Cause>
     ensures within { IfOk result LieWithinFrame }
 {
     let (Kind::Frame(offsets), Kind::Number(count)) = (second, third) else {
+        // Not reached: the signature of a function that uses the frame requires these kinds.
         return Err(Cause::OutOfBounds);
     };
     let bytes = FRAME_LENGTH as u64;

@@ -36,6 +36,7 @@ impl Comparison {
         ensures value { result ≡ branch self x y taken }
         ensures proper { IsProper (on_edge known.now self result) }
     {
+        // The two sides would narrow one register to different intervals.
         if self.right == Source::Register(self.left) {
             return Edge::Unchanged;
         }
@@ -49,6 +50,7 @@ impl Comparison {
     pub fn narrow(self, known: &mut AbstractState, both: Narrowed)
         ensures { known.new ≡ with_narrowed known.old self.left.number self.right both }
     {
+        // Copies of a register and slots aren't narrowed, as it isn't known where a value came from.
         known.registers[usize::from(self.left.number)] = Kind::Number(both.left);
         if let Source::Register(right) = self.right {
             known.registers[usize::from(right.number)] = Kind::Number(both.right);

@@ -18,5 +18,5 @@ mod worklist;
 pub use abstract_state::AbstractState;
 pub use fault::VerifyFault;
 pub use pass::{check, verify, verify_with};
-pub use verified::{Entry, Verified};
+pub use verified::Verified;
 pub use visitor::Visitor;

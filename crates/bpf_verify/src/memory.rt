@@ -1,4 +1,15 @@
 //! Loads and stores.
+//!
+//! The checks of loads and stores on what is known, in the order of the meaning's: base (40, 43), record (46), source (40), pointer (47), bounds (44)
+//! and unwritten bytes (45).
+//!
+//! Which cause a program is refused for is part of the verdict, and the verdict is exact, so an order that differs from `bpf_meaning::memory` in one
+//! place is refused by the prover. Bounds apply to base plus offset, which is no pointer: it is computed in 32 bits and never becomes 42 LeavesArea.
+//! What is known of a store at an unknown offset is only what it may have destroyed: it marks nothing, and each slot from its least byte to its
+//! greatest becomes unknown, also those that no run reaches.
+//!
+//! Always: a load whose slot has a known kind needs no marks, as `FrameMap` keeps both in step; and the area of a base is the same in every run, so
+//! the machine may rely on `area_of`.
 ghost use Rattle.std.specs.Prelude.{◌≡◌, ◌≤◌, ◌<◌, IfErr, IfOk, IfSome, IsTrue, OnOk, Err, Ok, option_map};
 ghost use Rattle.bpf_kinds.specs.Kind as kinds;
 ghost use Rattle.bpf_kinds.specs.Offsets as pointer_offsets;
@@ -86,6 +97,7 @@ pub(crate) fn lie_within(offsets: Offsets, offset: i16, count: usize, bytes: usi
     requires bytes { bytes ≤ 512 }
     ensures { result ≡ lie_within offsets offset count bytes }
 {
+    // Of more than 16 bits: the sum of base and offset is no pointer, so it may be anywhere.
     let first = i32::from(offsets.low) + i32::from(offset);
     let end = i32::from(offsets.high) + i32::from(offset) + count as i32;
     first >= 0 && end <= bytes as i32
@@ -169,6 +181,7 @@ fn known_slot(offsets: Offsets, offset: i16, count: usize) -> Option<usize>
     if offsets.low != offsets.high {
         return None;
     }
+    // Also for an offset before the frame, which the bounds refuse later.
     slot_at(at.unsigned_abs() as usize, count)
 }
 
@@ -223,6 +236,7 @@ fn store_at(
 {
     let count = store_length(size);
     let slot = known_slot(offsets, offset, count);
+    // 47 StoresPointer comes before 44 OutOfBounds.
     let kind = storable(slot, kind)?;
     if !lie_within(offsets, offset, count, FRAME_LENGTH) {
         return Err(Cause::OutOfBounds);

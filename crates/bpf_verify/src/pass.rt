@@ -1,4 +1,8 @@
 //! The one pass over a code.
+//!
+//! One pass suffices because jumps go only forward: whatever leads to a place is known when the pass gets there. The transfer function is monotone,
+//! so the pass finds the least annotation, and the verdict is exact: if a check fails here, some check fails for every annotation, so an author can
+//! predict the verdict. Definitions speak of any annotation, so safety is proved without the pass.
 ghost use Rattle.std.specs.Prelude.{◌≡◌, IfOk, IfErr, OnOk, Some};
 ghost use Rattle.bpf_insn.specs.Code.{HasProgramSize, instruction_at, word_count};
 ghost use Rattle.bpf_insn.specs.Immediates.{HasImmediates};
@@ -6,6 +10,7 @@ ghost use Rattle.bpf_meaning.specs.Run.{IsSafe};
 ghost use Rattle.bpf_verify.specs.Annotation.{HasGoodAnnotation, IsAccepted, IsVerifyFault, area_of};
 ghost use Rattle.bpf_verify.specs.Pass.{AreProper, IsRefusedVisit, IsVisitFault, Visits, edges_of, pending, state_of, visit_of};
 ghost use Rattle.bpf_verify.specs.Transfer.{edges_to, on_edge};
+ghost use Rattle.bpf_verify.specs.Verified.{HasBaseAreas};
 ghost use Rattle.bpf_verify.specs.Visit.{IsShown, IsShownRefusal};
 ghost use Rattle.bpf_verify.specs.declared.fault.VerifyFault.TheVariants.{Memory};
 
@@ -53,7 +58,7 @@ pub fn verify_with<A: Allocator + Copy, V: Visitor>(
     ensures shown_refusal { IfErr result (λ fault. IsShownRefusal V.visited flow.code fault visitor.old visitor.new) }
 {
     let areas = pass(alloc, &flow, visitor)?;
-    Ok(Verified::of(alloc, flow, &areas)?)
+    Ok(Verified::of(alloc, &flow, areas)?)
 }
 
 /// Returns the verdict of [`verify`] only.
@@ -74,6 +79,7 @@ fn pass<A: Allocator + Copy, V: Visitor>(
     visitor: &mut V,
 ) -> Result<Vec<Option<Area>, A>, VerifyFault>
     ensures ok { IfOk result (λ areas. IsAccepted flow.now.code areas.items) }
+    ensures areas { IfOk result (λ areas. HasBaseAreas flow.now.code areas.items) }
     ensures safe { OnOk result (IsSafe flow.now.code) }
     ensures err { IfErr result (IsVerifyFault flow.now.code) }
     ensures shown { OnOk result (IsShown V.visited flow.now.code visitor.old visitor.new) }

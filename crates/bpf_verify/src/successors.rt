@@ -50,6 +50,7 @@ impl Comparison {
         match self.right {
             Source::Immediate(immediate) => {
                 let number = match self.width {
+                    // Unsigned, since this is the number that the comparison narrows a register to.
                     Width::Bits32 => immediate_operand(immediate) % (1 << 32),
                     Width::Bits64 => immediate_operand(immediate),
                 };

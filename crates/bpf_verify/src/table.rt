@@ -24,6 +24,7 @@ pub(crate) fn transfer(known: &mut AbstractState, insn: Insn) -> Result<Successo
     ensures err { IfErr result (λ cause. walk (known_kinds known.old) insn ≡ Err cause) }
     ensures proper { IfOk result (λ successors. AreProperEdges (edges_to known.new successors)) }
 {
+    // In place: a state has almost 2 KB, and most instructions have one edge out of them.
     match insn {
         Insn::Alu {
             operation,

@@ -22,6 +22,7 @@ pub trait Visitor {
         ensures { OnOk result (self.new ≡ visited self.old (record { place = place; insn = insn; state = Unreached })) };
 }
 
+// Visitors are called by static dispatch, so `verify` pays nothing for the visits that `explain` needs.
 /// A visitor that ignores every instruction.
 impl Visitor for () {
     ghost visited = { λ visitor visit. visitor };

@@ -31,6 +31,8 @@ pub(crate) struct Worklist<'a, A: Allocator> {
     place: usize,
     /// The state there on the edge from the instruction before it.
     straight: Option<Box<AbstractState, A>>,
+    // Ordered, to find the state to join into. A list of all places would take memory by the program's length, a heap has no lookup, and strangers
+    // could attack an unseeded hash, as they choose the places.
     /// The states at targets of jumps, by place.
     waiting: BTreeMap<usize, Box<AbstractState, A>, A>,
 }

@@ -1,5 +1,5 @@
 -- From the parser's matches to the request.
-use Rattle.std.proofs.Common.{◌≡◌, ◌≢◌, ◌∙◌, ap, ap₂, sym, subst, true, List, [], Option, Some, None, Result, Ok, Err, inl, inr}
+use Rattle.std.proofs.Common.{◌≡◌, ◌≢◌, ap, ap₂, subst, true, List, [], Option, Some, None, Result, inl, inr}
 use Rattle.std.specs.Prelude.{option_map, unwrap_or}
 use Rattle.clap.specs.Walk.{Row, Text}
 use Rattle.clap.specs.Values.{kind_of}
@@ -15,10 +15,6 @@ use Rattle.std.specs.Prelude.{Box}
 use Rattle.std.specs.Box.{box_value}
 use Rattle.clap.specs.declared.parser.matches.SubCommand.{SubCommand}
 use Rattle.command_line.specs.Arguments.{program}
-use Rattle.command_line.specs.Values.{ReadsUnlessMemory}
-use Rattle.command_line.specs.Request.{AreMatchesOf, IsNamedRequest, IsRequestOf}
-use Rattle.commands.specs.declared.request.Request.{Request}
-use Rattle.command_line.specs.declared.fault.ArgumentsFault.{ArgumentsFault}
 use Rattle.command_line.proofs.ArgumentLemmas.{program_is_simple, program_is_simple_and_free}
 
 pub found_rows : (app : App) (words : List Text) (matches : ArgMatches) → app ≡ program → HasMatchesOf app words matches
@@ -35,12 +31,6 @@ pub has_fault : (kinds : Kinds) (error : Error) → HasKind kinds error → (kin
 has_fault kinds error (inl is) other = absurd (other is)
 has_fault kinds error (inr among) other = λ none. subst (λ (kinds : Kinds). IsAmong (kind_of error) kinds) none among
 
--- what two relations that say the same read
-pub reads_same : {X : Type 0} (P Q : X → Type 0) (result : Result X ArgumentsFault) → ((x : X) → P x → Q x) → ((x : X) → Q x → P x)
-    → ReadsUnlessMemory P result → ReadsUnlessMemory Q result
-reads_same P Q (Ok x) to from reads = to x reads
-reads_same P Q (Err fault) to from reads = λ other x is. reads other x (from x is)
-
 -- the name and the rows of the subcommand that the parser met
 pub met : (matches : ArgMatches) (name : Text) (rows : List Row) → subcommand_name_of matches ≡ Some name
     → option_map (λ p. p.1) (subcommand_rows_of matches) ≡ Some rows → subcommand_rows_of matches ≡ Some (name, rows)
@@ -50,13 +40,3 @@ met matches name rows = go (out-ArgMatches matches).subcommand
         → option_map (λ p. p.1) (subcommand_rows entered) ≡ Some rows → subcommand_rows entered ≡ Some (name, rows)
     go None named found = let bad : None ≡ Some name = named in cc
     go (Some b) named found = ap₂ (λ (n : Text) (rs : List Row). Some (n, rs)) (ap (λ (o : Option Text). unwrap_or o name) named) (ap (λ (o : Option (List Row)). unwrap_or o rows) found)
-
--- a request by the name and the rows is one of the words
-pub of_words : (words : List Text) (matches : ArgMatches) (name : Text) (rows : List Row) → AreMatchesOf words matches
-    → subcommand_rows_of matches ≡ Some (name, rows) → (result : Result Request ArgumentsFault)
-    → ReadsUnlessMemory (IsNamedRequest name rows) result → ReadsUnlessMemory (IsRequestOf words) result
-of_words words matches name rows are meets result reads =
-    let given : subcommand_of program words ≡ Some (name, rows) = sym are.command ∙ meets in
-    reads_same (IsNamedRequest name rows) (IsRequestOf words) result
-    (λ request is. record { taken = are.taken; made = rw given is })
-    (λ request is. rw given at is.made) reads

@@ -7,7 +7,7 @@ use Rattle.clap.specs.Simple.{App, Shape, app_of, new_rule, new_shape}
 use Rattle.clap.specs.declared.builder.action.ArgAction.TheVariants.{Set, SetTrue, Append}
 use Rattle.clap.specs.declared.builder.command.Command.{Command}
 use Rattle.clap.specs.declared.builder.command.Command.TheViews.{out-Command as fields_of}
-use Rattle.command_line.specs.declared.argument.Argument.{Argument}
+use Rattle.command_line.specs.declared.argument.DeclaredArgument.{DeclaredArgument}
 use Rattle.command_line.specs.declared.argument.ArgumentKind.{ArgumentKind}
 use Rattle.command_line.specs.declared.argument.ArgumentKind.TheVariants.{Required, Optional, Flag, One, Several}
 use Rattle.command_line.specs.declared.arguments.subcommand.Subcommand.{Subcommand}
@@ -42,7 +42,7 @@ rule_by_kind name Flag = flag name
 rule_by_kind name One = valued name
 rule_by_kind name Several = several name
 
-abbrev pub rule : Argument → Rule
+abbrev pub rule : DeclaredArgument → Rule
 rule argument = rule_by_kind argument.name.now argument.kind
 
 -- `CODE`

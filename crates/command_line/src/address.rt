@@ -8,7 +8,7 @@ use crate::fault::ArgumentsFault;
 use crate::flags::is_given;
 use crate::options::value_or;
 use clap::ArgMatches;
-use decimal::are_digits;
+use numerals::are_digits;
 use std::net::{IpAddr, SocketAddr};
 
 /// Returns the address at which to listen.
@@ -28,6 +28,7 @@ fn host<'a>(matches: &ArgMatches<'a>) -> Result<IpAddr, ArgumentsFault<'a>>
     let Ok(host) = text.parse::<IpAddr>() else {
         return Err(ArgumentsFault::Host(text));
     };
+    // A server that knows no users shouldn't be opened to other machines by mistake.
     if host.is_loopback() || is_given(matches, "public") {
         Ok(host)
     } else {

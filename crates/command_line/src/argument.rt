@@ -13,12 +13,12 @@ pub struct Declaration {
     pub about: &'static str,
     /// The rest of its help, after the arguments.
     pub after_help: &'static str,
-    pub arguments: &'static [Argument],
+    pub arguments: &'static [DeclaredArgument],
 }
 
 /// An argument of a command.
 #[derive(Clone, Copy)]
-pub struct Argument {
+pub struct DeclaredArgument {
     pub name: &'static str,
     pub kind: ArgumentKind,
     /// What the help calls its value. It shows none for a flag.
@@ -42,32 +42,33 @@ pub enum ArgumentKind {
 }
 
 // What several commands take.
-pub const DATA: Argument =
+pub const DATA: DeclaredArgument =
     argument!(Required "data" "DIR": "The folder of the TIGER/Line 2006 files");
 
-pub const PROGRAM: Argument =
+pub const PROGRAM: DeclaredArgument =
     argument!(Required "program" "FILE": "The program, as BPF instruction words");
 
-pub const COUNTY: Argument = argument!(One "code" "CODE": "The county, five digits");
+pub const COUNTY: DeclaredArgument = argument!(One "code" "CODE": "The county, five digits");
 
-pub const COUNTIES: Argument = argument!(Several "code" "CODE": "The counties, five digits each");
+pub const COUNTIES: DeclaredArgument =
+    argument!(Several "code" "CODE": "The counties, five digits each");
 
-pub const LANGUAGE: Argument =
+pub const LANGUAGE: DeclaredArgument =
     argument!(Optional "filter-lang" "LANG": "The language of the filter: cql2-text (the default) or cql2-json");
 
-pub const SCORE: Argument =
+pub const SCORE: DeclaredArgument =
     argument!(Optional "score" "COLUMN": "The column whose number is a row's score, or 0 if it has none");
 
-pub const FORMAT: Argument =
+pub const FORMAT: DeclaredArgument =
     argument!(Optional "format" "FORMAT": "rows (the default), csv, or geojsonseq: a GeoJSON feature on each line");
 
-pub const COLUMNS: Argument =
+pub const COLUMNS: DeclaredArgument =
     argument!(Optional "columns" "NAMES": "The columns of csv and geojsonseq, with commas between their names; by default one for each field");
 
-pub const GEOMETRY: Argument =
+pub const GEOMETRY: DeclaredArgument =
     argument!(Optional "geometry" "GEOMETRY": "The geometry of csv and geojsonseq: none, line (the default), or shape, which needs the type 2 files");
 
-impl Argument {
+impl DeclaredArgument {
     /// Returns the argument for the argument parser.
     pub fn arg<'a>(self, alloc: Global) -> Arg<'a>
         ensures rule { rule_of result ≡ rule self }

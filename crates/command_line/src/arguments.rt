@@ -1,4 +1,7 @@
 //! The arguments of a command line, and what they request.
+//!
+//! What a command takes, its help and the request that it makes are in one module below. Arguments are data (`Declaration`), from which this module
+//! builds clap's commands, so a new command is a row of `Subcommand` and a module.
 
 // The end of a help text, after its examples.
 macro_rules! help_end {

@@ -1,10 +1,11 @@
 //! A command, from its arguments to its exit status.
+//!
+//! It isn't named `command`, because a module can't share a name with an item beside it.
 ghost use Rattle.std.specs.Prelude.{◌≡◌, ◌≢◌, ◌≤◌, ◌⊎◌};
-ghost use Rattle.counted_io.specs.ReaderWriter.{writer};
 ghost use Rattle.clap.specs.Walk.{texts};
 ghost use Rattle.commands.specs.Command.{IsDone, IsOutOfMemory, IsRefusal, IsUnusable, ReportsMissingLine};
 ghost use Rattle.commands.specs.Failure.{ReportsMemory};
-ghost use Rattle.named_files.specs.Files.{KeepsCounts, disk};
+ghost use Rattle.named_files.specs.Files.{KeepsCounts};
 ghost use Rattle.commands.specs.declared.request.Request.{Request};
 ghost use Rattle.command_line.specs.Request.{HasNoRequest, IsRequestOf};
 
@@ -27,30 +28,30 @@ pub fn command<F: Files, W: FlushedWrite, E: CountedWrite>(
     errors: &mut E,
 ) -> u8
     ensures at_most { result ≤ 4 }
-    ensures done { result ≡ 0 → (request : Request) × IsRequestOf (texts arguments.now) request × IsDone request (F.bytes files.old)
-        (writer W.contents W.counts out.old) (writer W.contents W.counts out.new) }
-    ensures refused { result ≡ 1 → (request : Request) × IsRequestOf (texts arguments.now) request × IsRefusal request (F.bytes files.old)
-        (writer W.contents W.counts out.old) (writer W.contents W.counts out.new)
-        (writer E.contents E.counts errors.old) (writer E.contents E.counts errors.new) }
+    ensures done { result ≡ 0 → (request : Request) × IsRequestOf (texts arguments.now) request × IsDone request (F.disk files.old).known
+        (W.writer out.old) (W.writer out.new) }
+    ensures refused { result ≡ 1 → (request : Request) × IsRequestOf (texts arguments.now) request × IsRefusal request (F.disk files.old).known
+        (W.writer out.old) (W.writer out.new)
+        (E.writer errors.old) (E.writer errors.new) }
     ensures usage { result ≡ 2 → HasNoRequest (texts arguments.now)
-        ⊎ ((request : Request) × IsRequestOf (texts arguments.now) request × ReportsMissingLine request (F.bytes files.old)
-        (writer E.contents E.counts errors.old) (writer E.contents E.counts errors.new)) }
+        ⊎ ((request : Request) × IsRequestOf (texts arguments.now) request × ReportsMissingLine request (F.disk files.old).known
+        (E.writer errors.old) (E.writer errors.new)) }
     ensures untouched { result ≡ 2 → out.new ≡ out.old }
     ensures unusable { result ≡ 3 → (request : Request) × IsRequestOf (texts arguments.now) request × IsUnusable F.opens request
-        (disk F.bytes F.failed_opens F.failed_reads files.old) (disk F.bytes F.failed_opens F.failed_reads files.new)
-        (writer W.contents W.counts out.old) (writer W.contents W.counts out.new)
-        (writer E.contents E.counts errors.old) (writer E.contents E.counts errors.new) }
+        (F.disk files.old) (F.disk files.new)
+        (W.writer out.old) (W.writer out.new)
+        (E.writer errors.old) (E.writer errors.new) }
     // Nothing is written if reading the arguments runs out of memory.
     ensures memory { result ≡ 4
-        → ((out.new ≡ out.old) × ReportsMemory (writer E.contents E.counts errors.old) (writer E.contents E.counts errors.new))
-        ⊎ ((request : Request) × IsRequestOf (texts arguments.now) request × IsOutOfMemory request (F.bytes files.old)
-        (writer W.contents W.counts out.old) (writer W.contents W.counts out.new)
-        (writer E.contents E.counts errors.old) (writer E.contents E.counts errors.new)) }
+        → ((out.new ≡ out.old) × ReportsMemory (E.writer errors.old) (E.writer errors.new))
+        ⊎ ((request : Request) × IsRequestOf (texts arguments.now) request × IsOutOfMemory request (F.disk files.old).known
+        (W.writer out.old) (W.writer out.new)
+        (E.writer errors.old) (E.writer errors.new)) }
     // Nothing was written after the flush.
     ensures flushed_last { (result ≡ 0) ⊎ (result ≡ 1) → W.is_flushed out.new }
     // No failed open or read is ignored.
-    ensures opens { result ≢ 3 → F.failed_opens files.new ≡ F.failed_opens files.old }
-    ensures reads { result ≢ 3 → KeepsCounts (F.failed_reads files.old) (F.failed_reads files.new) }
+    ensures opens { result ≢ 3 → (F.disk files.new).failed_opens ≡ (F.disk files.old).failed_opens }
+    ensures reads { result ≢ 3 → KeepsCounts (F.disk files.old).failed_reads (F.disk files.new).failed_reads }
 {
     match read_request(alloc, arguments) {
         Ok(request) => request.answer(alloc, files, out, errors),

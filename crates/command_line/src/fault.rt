@@ -2,7 +2,6 @@
 ghost use Rattle.std.specs.Prelude.{◌≡◌, ◌≢◌};
 ghost use Rattle.std.specs.IoError.{error_kind};
 ghost use Rattle.std.specs.declared.io.ErrorKind.TheVariants as io_kind;
-ghost use Rattle.counted_io.specs.ReaderWriter.{writer};
 ghost use Rattle.commands.specs.Failure.{ReportsMemory};
 ghost use Rattle.clap.specs.Values.{kind_of};
 ghost use Rattle.clap.specs.declared.error.kind.ErrorKind.TheVariants as usage_kind;
@@ -79,6 +78,7 @@ impl ArgumentsFault<'_> {
     {
         match self {
             ArgumentsFault::Memory => OUT_OF_MEMORY,
+            // Also for `--help`: status 0 means that the requested output was written.
             _ => USAGE,
         }
     }
@@ -86,9 +86,9 @@ impl ArgumentsFault<'_> {
     /// Reports the fault on `errors`, up to the first write that fails or writes 0 bytes.
     pub fn report<E: CountedWrite>(&self, errors: &mut E)
         ensures memory { self.now ≡ ArgumentsFault.Memory
-            → ReportsMemory (writer E.contents E.counts errors.old) (writer E.contents E.counts errors.new) }
+            → ReportsMemory (E.writer errors.old) (E.writer errors.new) }
         ensures not_utf8 { self.now ≡ ArgumentsFault.NotUtf8
-            → ReportsNotUtf8 (writer E.contents E.counts errors.old) (writer E.contents E.counts errors.new) }
+            → ReportsNotUtf8 (E.writer errors.old) (E.writer errors.new) }
     {
         match self {
             ArgumentsFault::Memory => Failure::Memory.report(errors),

@@ -4,7 +4,7 @@
 // Expands to an argument: its kind, its name, what the help calls its value, and its help.
 macro_rules! argument {
     ($kind:ident $name:literal $value:literal: $help:literal) => {
-        $crate::argument::Argument {
+        $crate::argument::DeclaredArgument {
             name: $name,
             kind: $crate::argument::ArgumentKind::$kind,
             value: $value,

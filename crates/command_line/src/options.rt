@@ -1,6 +1,6 @@
 //! The values of arguments that several commands take.
 ghost use Rattle.std.specs.Prelude.{◌≡◌, ◌≢◌, ◌≤◌, ◌⊎◌, IfOk, MatchResult, None, Some, map, unwrap_or, vec_len};
-ghost use Rattle.decimal.specs.declared.numeral.TheConstants.{MAX_NUMBER_DIGITS};
+ghost use Rattle.numerals.specs.declared.numeral.TheConstants.{MAX_NUMBER_DIGITS};
 ghost use Rattle.clap.specs.Walk.{first_of};
 ghost use Rattle.cql2_tokens.specs.Name.{column_named as column_of};
 ghost use Rattle.command_line.specs.Values.{code_in, code_of, codes_in, codes_of, file_of, language_of, number_of, numeric, rows_in, score_of};
@@ -10,8 +10,8 @@ use crate::fault::{ArgumentsFault, CODE_LIMIT};
 use clap::ArgMatches;
 use cql2::{Column, NumericColumn};
 use cql2_text::column_named;
-use decimal::{are_digits, decimal_value};
 use filters::{FilterLanguage, FilterOptions};
+use numerals::{are_digits, decimal_value};
 use std::alloc::Global;
 
 /// Returns the value of a required argument.
@@ -34,6 +34,7 @@ pub fn value_or<'a>(matches: &ArgMatches<'a>, name: &str, default: &'static str)
     matches.get_str(name).unwrap_or(default)
 }
 
+// So that standard input is a file like any other, with the name that a diagnostic shows.
 /// The system's file name for standard input.
 const STANDARD_INPUT: &str = "/dev/stdin";
 

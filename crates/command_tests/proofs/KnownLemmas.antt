@@ -9,13 +9,14 @@ use Rattle.extract.specs.ExtractFault.{of_load}
 use Rattle.extract.specs.Extracting.{IsExtracted}
 use Rattle.layers.specs.Layer.{LayerParts, Rows}
 use Rattle.layers.specs.LayerParts.{parts_of}
-use Rattle.layers.specs.Writing.{IsHeadedOutcome, LayerReaders, after_header, in_header}
+use Rattle.layers.specs.Writing.{IsHeadedOutcome, after_header, in_header}
 use Rattle.commands.specs.Command.{IsDone}
 use Rattle.commands.specs.Verify.{acceptance}
 use Rattle.commands.specs.declared.request.Request.TheVariants as request
 use Rattle.commands.specs.declared.run.Run.{Run}
 use Rattle.commands.specs.declared.verify.Verify.{Verify}
 use Rattle.tl_records.specs.Lines.{AreLines}
+use Rattle.tl_segments.specs.County.{CountyReaders}
 use Rattle.tl_segments.specs.Segment.{SegmentParts}
 use Rattle.tl_segments.specs.declared.fault.LoadFault.{LoadFault}
 use Rattle.command_tests.specs.Known.{AppendsAcceptance, AppendsExtract}
@@ -37,12 +38,12 @@ appended old text (Some between) new appends unchanged = unchanged ∙ appends
 not_refused : {count : ℕ} (fault : LoadFault) → Ok count ≡ Err (of_load fault) → ⊥
 not_refused fault is = cc is
 
-rows_written : (code : List Insn) (count : ℕ) (old new : LayerReaders) (out out' : Writer) → IsHeadedOutcome Rows code (Ok count) old new out out'
-    → IsExtracted code count old.county new.county out out'
+rows_written : (code : List Insn) (count : ℕ) (old new : CountyReaders) (out out' : Writer) → IsHeadedOutcome Rows code (Ok count) old new out out'
+    → IsExtracted code count old.segments new.segments out out'
 rows_written code count old new out out' (in_header fault is_result written unread) = absurd (let no : ⊥ = cc is_result in no)
 rows_written code count old new out out' (after_header headed header (inl is)) = absurd (not_refused is.fault is.is_result)
 rows_written code count old new out out' (after_header headed header (inr is)) =
-    subst (λ (out : Writer). IsExtracted code count old.county new.county out out') header.1 is.outcome
+    subst (λ (out : Writer). IsExtracted code count old.segments new.segments out out') header.1 is.outcome
 
 module _ (bytes : List ℕ → List ℕ) {held held' : List ℕ} {counts counts' : WriteCounts} where
   pub verify_known : (verify : Verify)
@@ -63,17 +64,17 @@ module _ (bytes : List ℕ → List ℕ) {held held' : List ℕ} {counts counts'
       (subst (λ (layer : LayerParts). IsHeadedOutcome layer of.outcome.0 (Ok is.written.0) of.old of.new (record { held = Some held; counts = counts })
       is.unflushed) rows of.outcome.2) in
       let loads = extracted.loads in
-      let county = of.hold.county in record {
+      let segments = of.hold.county.segments in record {
         code = of.outcome.0;
         safe = subst (λ (program : List ℕ). IsSafeProgram program of.outcome.0) of.hold.is_program of.outcome.1;
         lines = loads.lines;
-        rt1 = lines_left _ of.old.county.rt1.left loads.lines county.rt1.left loads.rt1.known;
+        rt1 = lines_left _ of.old.segments.rt1.left loads.lines segments.rt1.left loads.rt1.known;
         joined = loads.joined;
-        rt4 = lines_left _ of.old.county.joined.rt4.left loads.joined.rt4 county.joined.rt4.left loads.reads_joined.rt4.known;
-        rt5 = lines_left _ of.old.county.joined.rt5.left loads.joined.rt5 county.joined.rt5.left loads.reads_joined.rt5.known;
-        rt6 = lines_left _ of.old.county.joined.rt6.left loads.joined.rt6 county.joined.rt6.left loads.reads_joined.rt6.known;
+        rt4 = lines_left _ of.old.segments.joined.rt4.left loads.joined.rt4 segments.joined.rt4.left loads.reads_joined.rt4.known;
+        rt5 = lines_left _ of.old.segments.joined.rt5.left loads.joined.rt5 segments.joined.rt5.left loads.reads_joined.rt5.known;
+        rt6 = lines_left _ of.old.segments.joined.rt6.left loads.joined.rt6 segments.joined.rt6.left loads.reads_joined.rt6.known;
         text = extracted.text;
         rows = is.written.0;
-        is_extract = subst (λ (segments : List SegmentParts). IsExtract of.outcome.0 segments extracted.text is.written.0) loads.segments extracted.is_extract;
+        is_extract = subst (λ (segments : List SegmentParts). IsExtract of.outcome.0 segments extracted.text is.written.0) loads.are_segments extracted.is_extract;
         written = appended held extracted.text is.unflushed.held held' extracted.written is.flushed.unchanged;
       }

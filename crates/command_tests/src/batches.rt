@@ -105,6 +105,8 @@ extractd geocode-batch --addresses a.csv --data d --shape 01001;; 3; error: d/TG
 extractd geocode-batch --addresses a.csv --data d --shape 01001 01003;; 3; error: d/TGR01003.RT2: not found; a.csv: number,name\n;
   d/TGR01001.RT1: {rt1}\n; d/TGR01003.RT1: {rt1}\n; d/TGR01001.RT2: {rt2}\n
 extractd geocode-batch --addresses a.csv --data d --shape 01001 01003;; 1; refused 1 rt1 line 1 WrongLength; a.csv: number,name\n;
+  d/TGR01001.RT1: {rt1}\n; d/TGR01003.RT1: {rt1 ..227}\n; d/TGR01001.RT2:; d/TGR01003.RT2:
+extractd geocode-batch --addresses a.csv --data d --shape 01001 01003;; 3; error: d/TGR01001.RT2: not found; a.csv: number,name\n;
   d/TGR01001.RT1: {rt1}\n; d/TGR01003.RT1: {rt1 ..227}\n
 extractd geocode-batch --addresses a.csv --data d --shape 01001;; 1; refused 1 rt2 line 4 WrongLength; a.csv: number,nam\n;
   d/TGR01001.RT1: {rt1}\n; d/TGR01001.RT2: {rt2}\n{rt2 RTSQ=2}\n{rt2 TLID=5}\n{rt2 ..207}\n

@@ -158,11 +158,11 @@ impl<'a> Files for MemoryFiles<'a> {
 
     type Reader = Reader<'a>;
 
-    ghost bytes = { λ files name. Some (bytes_named files.files.now name) };
-
-    ghost failed_opens = { λ files. files.failed_opens };
-
-    ghost failed_reads = { read_counts };
+    ghost disk = { λ files. record {
+      known = λ name. Some (bytes_named files.files.now name);
+      failed_opens = files.failed_opens;
+      failed_reads = read_counts files;
+    } };
 
     fn open(&mut self, name: &str) -> io::Result<Reader<'a>> {
         match self.open_file(name) {

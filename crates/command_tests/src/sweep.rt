@@ -59,7 +59,7 @@ extractd geocode-batch --addresses a.csv --data d --shape 01001; HEADER2,match,,
   0;; a.csv: number,name\n150,main\n; d/TGR01001.RT1: {rt1 FRLONG=1000 FRLAT=0 TOLONG=2000 TOLAT=3000 TOADDR=200}\n;
   d/TGR01001.RT2: {rt2 LONG1=2000 LAT1=0 LONG2=}\n
 extractd geocode-batch --addresses a.csv --data d --shape 01001;; 1; refused 1 rt2 line 1 WrongLength; a.csv: number,name;
-  d/TGR01001.RT1: {rt1}\n; d/TGR01001.RT2: {rt2 ..207}\n ! reads 208
+  d/TGR01001.RT1: {rt1}\n ! reads 0; d/TGR01001.RT2: {rt2 ..207}\n ! reads 208
 extractd geocode-batch --addresses a.csv --data d 01001;; 1; refused 105 line 3 NotOneRecord\na carriage return or an unquoted line break ends the record early;
   a.csv: number,name\n151,main\n151,main\rx\n; d/TGR01001.RT1: {rt1}\n
 extractd geocode-batch --addresses a.csv --data d 01001;; 1; refused 1 rt1 line 1 WrongLength; a.csv: number,nam;

@@ -6,7 +6,6 @@ use Rattle.std.proofs.Math.Seq.{take-append_seam}
 use Rattle.std.proofs.lemmas.List.{append-nil}
 use Rattle.std.proofs.lemmas.List.Folds.{concat-append}
 use Rattle.std.proofs.lemmas.Slice.Zip.{all_zipped_more}
-use Rattle.std.specs.Bool.{IsTrue}
 use Rattle.std.specs.List.{concat}
 use Rattle.addresses.specs.Address.{AddressParts}
 use Rattle.addresses.specs.AddressFault as address_fault
@@ -14,20 +13,19 @@ use Rattle.addresses.specs.Listing.{IsAddressRead, IsHeaderRead, Listing, addres
 use Rattle.addresses.specs.declared.fault.AddressFault.{AddressFault}
 use Rattle.addresses.specs.declared.fault.AddressFault.TheVariants.{NoHeader, At, Memory}
 use Rattle.addresses.proofs.ListingLaws.{all_read_lem, one_more_lem}
-use Rattle.batch.specs.Batch.{BatchParts}
-use Rattle.batch.specs.Lines.{header}
+use Rattle.address_batch.specs.Batch.{BatchParts}
+use Rattle.address_batch.specs.Lines.{header}
 use Rattle.refusals.specs.Refusal.{RefusalParts, memory}
 use Rattle.counted_io.specs.ReaderWriter.{WriteCounts, Writer}
 use Rattle.counted_io.specs.Writing.{WritesText}
 use Rattle.tl_segments.specs.County.{CountyParts}
 use Rattle.commands.specs.Command.{CarriesOut}
 use Rattle.commands.specs.Counties.{AreCountiesOf, HaveRefusedCounty, IsFileOfCounties, IsLoadFailure, IsRefusedFileOfOne}
-use Rattle.commands.specs.CountyShapes.{HaveRefusedShapes, HaveShapeLinesIf, IsShapesFile}
 use Rattle.commands.specs.Failure.{IsOfAddresses, NamesFile, IsUnfailedUnlessUnusable, WritesAs, refusal_status, status}
 use Rattle.named_files.specs.County.{file_name}
 use Rattle.named_files.specs.Files.{Disk, IsUnfailed, OpenResults}
 use Rattle.commands.specs.GeocodeBatch.{AreAddressesOf, AreLinesIn, AreLinesOf, Inputs, IsAddressesFault, IsFaultOf, IsFileOf, IsOutput, IsOutputOfFirst}
-use Rattle.commands.specs.GeocodeBatch.{IsRefused, WritesBatch, WritesUnlessMemory, codes_of, fault_of, of_county, of_memory, of_shapes}
+use Rattle.commands.specs.GeocodeBatch.{IsRefused, WritesBatch, WritesUnlessMemory, codes_of, fault_of, of_county, of_memory}
 use Rattle.commands.specs.declared.failure.Failure.{Failure}
 use Rattle.commands.specs.declared.failure.Failure.TheVariants as failure
 use Rattle.commands.specs.declared.geocode_batch.GeocodeBatch.{GeocodeBatch}
@@ -66,19 +64,6 @@ module _ (file : List ℕ) (rows : List AddressParts) (left : Listing) (read : I
   none_faulty addresses fault are end =
       let same : fault_of (Ok (record { addresses = addresses; fault = None })) ≡ Some fault = ap fault_of (sym are) ∙ read_until fault end in
       grind (arith, same)
-
--- a failed read of the next address implies why not all addresses are read
-pub read_failure : (file : List ℕ) (rows : List AddressParts) (left new : Listing) (address : AddressParts) (fault : AddressFault)
-    → IsReadTo file rows left → IsAddressRead (Err fault) address left new → IsAddressesFault file fault
-read_failure file rows left new address (At line flaw) read is = read_until file rows left read (At line flaw) is
-read_failure file rows left new address NoHeader read is = absurd is
-read_failure file rows left new address Memory read is = tt
-
--- a failed read of the header implies it too
-pub header_failure : (file : List ℕ) (fault : AddressFault) → IsHeaderRead (Err fault) (addresses_in file) → IsAddressesFault file fault
-header_failure file (At line flaw) is = ap fault_of is
-header_failure file NoHeader is = ap fault_of is
-header_failure file Memory is = tt
 
 -- a file whose header is read has no fault of its header
 is_listing : {held : Result Listing AddressFault} {left : Listing} → held ≡ Ok left → (fault : AddressFault) → held ≢ Err fault
@@ -218,7 +203,7 @@ addresses_fault file Memory is_failure other = absurd (other refl)
 addresses_fault file NoHeader is_failure other = is_failure
 addresses_fault file (At line flaw) is_failure other = is_failure
 
--- The files before were read, and then those of the counties, or those with their shapes, can't be loaded.
+-- The file of addresses was read, and then the counties can't be loaded.
 module _ {R : Type 0} (opens : OpenResults R) (batch : GeocodeBatch) {disk later disk' : Disk} {out : Writer} (before : IsUnfailed disk later)
     {IsRefusedSo : RefusalParts → Type 0} {IsFile : List ℕ → Type 0} {IsRead : RefusalParts → List ℕ → Type 0}
     (refused : (refusal : RefusalParts) → IsRefusedSo refusal → IsRefused batch disk.known refusal out out)
@@ -254,61 +239,35 @@ module _ (batch : GeocodeBatch) {known later : List ℕ → Option (List ℕ)} (
       subst (λ known. Is known (codes_of batch)) (fun_ext same) (subst (λ (codes : List (Bor (List ℕ))). Is later (texts codes)) lent is)
 
   -- the counties of these codes are those of the request
-  pub counties_lent : (counties : List CountyParts) → AreCountiesOf later batch.«data».now (texts codes) counties
-      → AreCountiesOf known batch.«data».now (codes_of batch) counties
-  counties_lent counties = of_request (λ known codes. AreCountiesOf known batch.«data».now codes counties)
+  pub counties_lent : (counties : List CountyParts) → AreCountiesOf batch.shape later batch.«data».now (texts codes) counties
+      → AreCountiesOf batch.shape known batch.«data».now (codes_of batch) counties
+  counties_lent counties = of_request (λ known codes. AreCountiesOf batch.shape known batch.«data».now codes counties)
 
-  -- so are their type 2 lines
-  pub lines_lent : (rt2 : Option (List (List (List ℕ)))) → HaveShapeLinesIf batch.shape later batch.«data».now (texts codes) rt2
-      → HaveShapeLinesIf batch.shape known batch.«data».now (codes_of batch) rt2
-  lines_lent rt2 = of_request (λ known codes. HaveShapeLinesIf batch.shape known batch.«data».now codes rt2)
-
-  county_refused : (refusal : RefusalParts) → HaveRefusedCounty later batch.«data».now (texts codes) refusal
-      → HaveRefusedCounty known batch.«data».now (codes_of batch) refusal
-  county_refused refusal = of_request (λ known codes. HaveRefusedCounty known batch.«data».now codes refusal)
-
-  shapes_refused : (refusal : RefusalParts) → HaveRefusedShapes later batch.«data».now (texts codes) refusal
-      → HaveRefusedShapes known batch.«data».now (codes_of batch) refusal
-  shapes_refused refusal = of_request (λ known codes. HaveRefusedShapes known batch.«data».now codes refusal)
+  county_refused : (refusal : RefusalParts) → HaveRefusedCounty batch.shape later batch.«data».now (texts codes) refusal
+      → HaveRefusedCounty batch.shape known batch.«data».now (codes_of batch) refusal
+  county_refused refusal = of_request (λ known codes. HaveRefusedCounty batch.shape known batch.«data».now codes refusal)
 
   refused_named : (refusal : RefusalParts) (name : List ℕ) → IsRefusedFileOfOne batch.«data».now (texts codes) refusal name
       → IsRefusedFileOfOne batch.«data».now (codes_of batch) refusal name
   refused_named refusal name = of_request (λ known codes. IsRefusedFileOfOne batch.«data».now codes refusal name)
 
-  county_named : (name : List ℕ) → IsFileOfCounties batch.«data».now (texts codes) name → IsFileOfCounties batch.«data».now (codes_of batch) name
-  county_named name = of_request (λ known codes. IsFileOfCounties batch.«data».now codes name)
-
-  shapes_named : (name : List ℕ) → IsShapesFile batch.«data».now (texts codes) name → IsShapesFile batch.«data».now (codes_of batch) name
-  shapes_named name = of_request (λ known codes. IsShapesFile batch.«data».now codes name)
+  county_named : (name : List ℕ) → IsFileOfCounties batch.shape batch.«data».now (texts codes) name
+      → IsFileOfCounties batch.shape batch.«data».now (codes_of batch) name
+  county_named name = of_request (λ known codes. IsFileOfCounties batch.shape batch.«data».now codes name)
 
 module _ {R : Type 0} (opens : OpenResults R) (batch : GeocodeBatch) {disk later disk' : Disk} {out : Writer} (before : IsUnfailed disk later)
     (same : (name : List ℕ) → later.known name ≡ disk.known name) (codes : List (Bor (List ℕ))) (lent : codes ≡ batch.codes.items)
     (failure : Failure) where
   -- the file of addresses was read, and then the counties can't be loaded
-  pub counties_failed : IsLoadFailure opens (HaveRefusedCounty later.known batch.«data».now (texts codes))
+  pub counties_failed : IsLoadFailure opens (HaveRefusedCounty batch.shape later.known batch.«data».now (texts codes))
       (IsRefusedFileOfOne batch.«data».now (texts codes)) later disk' failure
-      → NamesFile (IsFileOfCounties batch.«data».now (texts codes)) failure → IsUnfailedUnlessUnusable {T = ℕ} (Err failure) later disk'
+      → NamesFile (IsFileOfCounties batch.shape batch.«data».now (texts codes)) failure → IsUnfailedUnlessUnusable {T = ℕ} (Err failure) later disk'
       → CarriesOut opens (request.GeocodeBatch batch) (Err failure) disk disk' out out
   counties_failed =
       load_failed opens batch before (λ refusal is. of_county (county_refused batch same lent refusal is) refl) (refused_named batch same lent)
-      (λ name is. inr (inl (county_named batch same lent name is))) failure
+      (λ name is. inr (county_named batch same lent name is)) failure
 
-  -- the counties were loaded too, and then their shapes can't be loaded
-  pub shapes_failed : IsTrue batch.shape → (counties : List CountyParts) → AreCountiesOf disk.known batch.«data».now (codes_of batch) counties
-      → IsLoadFailure opens (HaveRefusedShapes later.known batch.«data».now (texts codes))
-      (IsRefusedFileOfOne batch.«data».now (texts codes)) later disk' failure
-      → NamesFile (IsShapesFile batch.«data».now (texts codes)) failure → IsUnfailedUnlessUnusable {T = ℕ} (Err failure) later disk'
-      → CarriesOut opens (request.GeocodeBatch batch) (Err failure) disk disk' out out
-  shapes_failed wanted counties are =
-      load_failed opens batch before (λ refusal is. of_shapes (record {
-        wanted = wanted;
-        counties = counties;
-        are_counties = are;
-        refused = shapes_refused batch same lent refusal is;
-      }) refl) (refused_named batch same lent)
-      (λ name is. inr (inr (wanted, shapes_named batch same lent name is))) failure
-
--- The file of addresses, the counties and their shapes are loaded.
+-- The file of addresses and the counties are loaded.
 module _ {R : Type 0} {opens : OpenResults R} (batch : GeocodeBatch) {disk disk' : Disk} (inputs : Inputs batch disk.known)
     (counts : IsUnfailed disk disk') {out : Writer} where
   -- not all of the file's addresses are read
@@ -357,8 +316,8 @@ module _ {R : Type 0} {opens : OpenResults R} (batch : GeocodeBatch) {disk disk'
   -- the same, for the batch made of the counties and their codes
   pub batch_lent : {out' : Writer} (result : Result (Unit {0}) Failure) (made : BatchParts)
       → made ≡ record { counties = inputs.counties; codes = codes_of batch } → (addresses : List AddressParts)
-      → AreAddressesOf inputs.file addresses → WritesBatch (AreLinesIn inputs.rt2 made.codes made.counties) addresses result out out'
+      → AreAddressesOf inputs.file addresses → WritesBatch (AreLinesIn batch.shape made.codes made.counties) addresses result out out'
       → CarriesOut opens (request.GeocodeBatch batch) result disk disk' out out'
   batch_lent {out'} result made is addresses are wrote =
       batch_carried addresses result are
-      (subst (λ (made : BatchParts). WritesBatch (AreLinesIn inputs.rt2 made.codes made.counties) addresses result out out') is wrote)
+      (subst (λ (made : BatchParts). WritesBatch (AreLinesIn batch.shape made.codes made.counties) addresses result out out') is wrote)

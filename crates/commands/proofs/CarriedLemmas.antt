@@ -1,5 +1,5 @@
 -- How any request is carried out: if a file can't be used, if a library refuses it, and if its text is written.
-use Rattle.std.proofs.Common.{◌≡◌, ◌≢◌, ℕ, List, Option, Bor, Result, Ok, Err, IsErrAnd, refl, ap, sym, subst, ◌∙◌, arith}
+use Rattle.std.proofs.Common.{◌≡◌, ◌≢◌, ℕ, List, Option, Bor, Result, Ok, Err, IsErrAnd, refl, ap, sym, subst, ◌∙◌, arith, Bool}
 use Rattle.bpf_insn.specs.CodeFault as code_fault
 use Rattle.bpf_insn.specs.declared.fault.CodeFault.{CodeFault}
 use Rattle.refusals.specs.Refusal.{RefusalParts}
@@ -95,10 +95,10 @@ module _ {R : Type 0} (opens : OpenResults R) {request : Request} {disk disk' : 
   }
 
   -- the program or the county can't be read
-  module _ (name folder code : List ℕ) where
-    pub inputs_carried : (failure : Failure) → IsInputsFailure opens name folder code disk disk' failure → NamesFile (IsFileOf request) failure
+  module _ {shapes : Bool} (name folder code : List ℕ) where
+    pub inputs_carried : (failure : Failure) → IsInputsFailure opens shapes name folder code disk disk' failure → NamesFile (IsFileOf request) failure
         → IsUnfailedUnlessUnusable {T = ℕ} (Err failure) disk disk' → WritesBefore request disk.known out out
-        → ((refusal : RefusalParts) → HoldTooLong name folder code disk.known refusal → IsRefused request disk.known refusal out out)
+        → ((refusal : RefusalParts) → HoldTooLong shapes name folder code disk.known refusal → IsRefused request disk.known refusal out out)
         → CarriesOut opens request (Err failure) disk disk' out out
     inputs_carried (Refusal refusal) is names counts before each = record {
       outcome = (each refusal is, λ three. absurd (code_status is.fault (ap refusal_status (sym is.is_refusal) ∙ three)));

@@ -1,5 +1,5 @@
 -- Counties loaded one after the other: what is known of the files stays the same.
-use Rattle.std.proofs.Common.{◌≡◌, ℕ, ◌+◌, ◌<◌, suc, List, [], ◌∷◌, ◌++◌, length, get_or, take, drop, map}
+use Rattle.std.proofs.Common.{◌≡◌, ℕ, ◌+◌, ◌<◌, suc, Bool, List, [], ◌∷◌, ◌++◌, length, get_or, take, drop, map}
 use Rattle.std.proofs.Common.{Option, Bor, Result, Ok, Err}
 use Rattle.std.proofs.Common.{IsErrAnd, IfErr, refl, ap, sym, subst, ◌≢◌, ◌∙◌, arith}
 use Rattle.std.proofs.Math.Path.{fun_ext}
@@ -20,7 +20,7 @@ use Rattle.named_files.specs.declared.files.FileFault.TheVariants as fault
 use Rattle.commands.specs.declared.failure.Failure.{Failure}
 use Rattle.commands.specs.declared.failure.Failure.TheVariants.{Refusal, Memory, File, CountyFile}
 use Rattle.commands.proofs.CarriedLemmas.{refusal_not_usage}
-use Rattle.commands.proofs.ReadLemmas.{county_closed, then_reads}
+use Rattle.commands.proofs.ReadLemmas.{county_closed, county_from}
 
 abbrev pub texts : List (Bor (List ℕ)) → List (List ℕ)
 texts codes = map (λ code. code.now) codes
@@ -32,22 +32,22 @@ codes_at codes i d inside =
     ∙ ap (λ following. texts (take i codes) ++ texts following) (drop-cons codes i d inside)
 
 -- after the counties of the codes before it
-module _ {known later : List ℕ → Option (List ℕ)} (same : (name : List ℕ) → later name ≡ known name) {folder : List ℕ}
+module _ {shapes : Bool} {known later : List ℕ → Option (List ℕ)} (same : (name : List ℕ) → later name ≡ known name) {folder : List ℕ}
     (codes : List (Bor (List ℕ))) (i : ℕ) (d : Bor (List ℕ)) (counties : List CountyParts) (inside : i < length codes)
-    (so_far : AreCountiesOf known folder (texts (take i codes)) counties) where
+    (so_far : AreCountiesOf shapes known folder (texts (take i codes)) counties) where
   -- the county of one more code
-  pub counties_more : (county : CountyParts) → IsCountyOf later folder (get_or codes i d).now county
-      → AreCountiesOf known folder (texts (take (i + 1) codes)) (counties ++ county ∷ [])
+  pub counties_more : (county : CountyParts) → IsCountyOf shapes later folder (get_or codes i d).now county
+      → AreCountiesOf shapes known folder (texts (take (i + 1) codes)) (counties ++ county ∷ [])
   counties_more county is =
-      let here : IsCountyOf known folder (get_or codes i d).now county =
-      subst (λ (known : List ℕ → Option (List ℕ)). IsCountyOf known folder (get_or codes i d).now county) (fun_ext same) is in
-      subst (λ (codes : List (List ℕ)). AreCountiesOf known folder codes (counties ++ county ∷ []))
+      let here : IsCountyOf shapes known folder (get_or codes i d).now county =
+      subst (λ (known : List ℕ → Option (List ℕ)). IsCountyOf shapes known folder (get_or codes i d).now county) (fun_ext same) is in
+      subst (λ (codes : List (List ℕ)). AreCountiesOf shapes known folder codes (counties ++ county ∷ []))
       (sym (map_more (λ (code : Bor (List ℕ)). code.now) codes i d inside))
-      (all_zipped_more (IsCountyOf known folder) (texts (take i codes)) counties (get_or codes i d).now county so_far here)
+      (all_zipped_more (IsCountyOf shapes known folder) (texts (take i codes)) counties (get_or codes i d).now county so_far here)
 
   -- the refusal of one more code's county
-  pub refused_after : {refusal : RefusalParts} → IsRefusedCounty later folder (get_or codes i d).now refusal
-      → HaveRefusedCounty known folder (texts codes) refusal
+  pub refused_after : {refusal : RefusalParts} → IsRefusedCounty shapes later folder (get_or codes i d).now refusal
+      → HaveRefusedCounty shapes known folder (texts codes) refusal
   refused_after {refusal} is = record {
     before = texts (take i codes);
     code = (get_or codes i d).now;
@@ -55,7 +55,7 @@ module _ {known later : List ℕ → Option (List ℕ)} (same : (name : List ℕ
     are_codes = codes_at codes i d inside;
     counties = counties;
     loaded = so_far;
-    refused = subst (λ (known : List ℕ → Option (List ℕ)). IsRefusedCounty known folder (get_or codes i d).now refusal) (fun_ext same) is;
+    refused = subst (λ (known : List ℕ → Option (List ℕ)). IsRefusedCounty shapes known folder (get_or codes i d).now refusal) (fun_ext same) is;
   }
 
 -- a file named in the failure of one code
@@ -94,15 +94,16 @@ module _ {R : Type 0} (opens : OpenResults R) {IsRefusedNow IsRefusedSo : Refusa
   earlier_load_failure Memory unfailed so file_so is = tt
   earlier_load_failure failure unfailed so file_so is = absurd is
 
--- a county is refused, and its readers are closed
-pub refused_failure : {R : Type 0} (opens : OpenResults R) (folder code : List ℕ) (disk between disk' : Disk) {old new : CountyReaders}
-    (fault : LoadFault) → HoldCounty disk.known folder code old → KeepsCounts disk.failed_reads between.failed_reads
-    → ClosesCounty folder code new between.failed_reads disk'.failed_reads → IsCountyFault fault old new
-    → IsLoadFailure opens (IsRefusedCounty disk.known folder code) (IsRefusedFile folder code) disk disk' (Refusal (load_fault.refusal fault))
-refused_failure opens folder code disk between disk' {old} {new} fault hold before closes is = (
-  record { old = old; hold = hold; new = new; fault = fault; is_fault = is; is_refusal = refl },
-  (then_reads before (county_closed hold closes fault is)).fails,
-)
+module _ {R : Type 0} (opens : OpenResults R) {shapes : Bool} (folder code : List ℕ) (disk between disk' : Disk) where
+  -- a county is refused, and its readers are closed
+  pub refused_failure : {old new : CountyReaders} (fault : LoadFault) → HoldCounty shapes disk.known folder code old
+      → KeepsCounts disk.failed_reads between.failed_reads → ClosesCounty folder code new between.failed_reads disk'.failed_reads
+      → IsCountyFault fault old new
+      → IsLoadFailure opens (IsRefusedCounty shapes disk.known folder code) (IsRefusedFile folder code) disk disk' (Refusal (load_fault.refusal fault))
+  refused_failure {old} {new} fault hold before closes is = (
+    record { old = old; hold = hold; new = new; fault = fault; is_fault = is; is_refusal = refl },
+    (county_closed hold (county_from before closes) fault is).fails,
+  )
 
 -- a county's file can't be opened
 module _ {R : Type 0} (opens : OpenResults R) (IsRefusedSo : RefusalParts → Type 0) (IsFile : RefusalParts → List ℕ → Type 0)
@@ -119,10 +120,10 @@ pub open_counts : {disk disk' : Disk} (folder code : Bor (List ℕ)) (file : cou
 open_counts folder code file (fault.Unusable error) opens reads other = absurd (other refl)
 open_counts folder code file fault.Memory opens reads other = record { opens = opens; reads = reads }
 
-pub open_named : (folder code : Bor (List ℕ)) (file : county_file.CountyFile) (of : FileFault) → IsLoaded file
-    → NamesFile (IsFileOfCounty folder.now code.now) (of_county_file folder code file of)
-open_named folder code file (fault.Unusable error) loaded = (file, loaded, refl)
-open_named folder code file fault.Memory loaded = tt
+pub open_named : (shapes : Bool) (folder code : Bor (List ℕ)) (file : county_file.CountyFile) (of : FileFault) → IsLoaded shapes file
+    → NamesFile (IsFileOfCounty shapes folder.now code.now) (of_county_file folder code file of)
+open_named shapes folder code file (fault.Unusable error) loaded = (file, loaded, refl)
+open_named shapes folder code file fault.Memory loaded = tt
 
 -- none of these is a usage error
 module _ {R : Type 0} (opens : OpenResults R) (IsRefusedSo : RefusalParts → Type 0) (IsFile : RefusalParts → List ℕ → Type 0)

@@ -12,5 +12,4 @@ mod TraceLemmas
 mod SelectLemmas
 mod AnswerLemmas
 pub mod OpenLemmas
-mod CountyShapesLemmas
 mod BatchLemmas

@@ -21,11 +21,6 @@ beginning_longer a b text more is = record {
       ∙ sym (take-append-le (min is.count (length text)) text more (min-le_right is.count (length text)))) is.appends;
 }
 
--- a longer text isn't written completely either
-pub stopped_early : (text more : List ℕ) (fault : WriteFault) (a b : Writer) → WritesText text (Err fault) a b
-    → WritesText (text ++ more) (Err fault) a b
-stopped_early text more fault a b stopped = (beginning_longer a.held b.held text more stopped.0, stopped.1)
-
 -- a text is written after another
 pub written_further : (first second : List ℕ) (a b c : Writer) → WritesText first (Ok tt) a b → WritesText second (Ok tt) b c
     → WritesText (first ++ second) (Ok tt) a c

@@ -1,27 +1,30 @@
 -- Which refusals are for a failed read, and what closing a county's readers then counts.
-use Rattle.std.proofs.Common.{◌≡◌, ◌≢◌, ℕ, List, Option, refl, ap, sym, subst, ◌∙◌, arith}
+use Rattle.std.proofs.Common.{◌≡◌, ◌≢◌, ℕ, Bool, true, false, List, Option, Some, None, refl, ap, sym, subst, ◌∙◌, arith}
 use Rattle.std.proofs.Math.Path.{fun_ext}
 use Rattle.bpf_insn.specs.declared.instruction.Insn.{Insn}
 use Rattle.bpf_meaning.specs.Extract.{TextFormat}
 use Rattle.counted_io.specs.ReaderWriter.{Reader, Writer}
 use Rattle.tl_records.specs.LineFaultKind as line_fault_kind
 use Rattle.tl_records.specs.declared.fault.LineFaultKind.{LineFaultKind}
-use Rattle.tl_segments.specs.County.{CountyParts, CountyReaders, IsCountyFault, LoadsCounty, before_rt1, in_rt1}
+use Rattle.tl_segments.specs.County.{CountyParts, CountyReaders, IsCountyFault, IsSegmentsFault, LoadsCounty, LoadsSegments, SegmentReaders}
+use Rattle.tl_segments.specs.County.{before_rt1, in_rt1, in_segments, in_shapes}
 use Rattle.tl_segments.specs.CountyFile.{record_type}
 use Rattle.tl_segments.specs.LoadFault as load_fault
 use Rattle.tl_segments.specs.Loading.{IsFaultAfter, IsFileFault, IsJoinedFault, in_rt4, in_rt5, in_rt6}
+use Rattle.tl_segments.specs.Segment.{SegmentParts}
+use Rattle.tl_segments.specs.Shapes.{IsShapesFault, ReadsShapes}
 use Rattle.tl_segments.specs.declared.fault.CountyFile as county_file
-use Rattle.tl_segments.specs.declared.fault.CountyFile.TheVariants.{Rt1, Rt4, Rt5, Rt6}
+use Rattle.tl_segments.specs.declared.fault.CountyFile.TheVariants.{Rt1, Rt2, Rt4, Rt5, Rt6}
 use Rattle.tl_segments.specs.declared.fault.LoadFault.{LoadFault}
 use Rattle.tl_segments.specs.declared.fault.LoadFault.TheVariants as load
 use Rattle.extract.specs.Extracting.{AreUnfailed, IsLoadRefusalIn}
 use Rattle.extract.specs.Extracting as extracting
-use Rattle.named_files.specs.County.{ClosesCounty, HoldCounty, file_name}
+use Rattle.named_files.specs.County.{ClosesCounty, ClosesSegments, ClosesShapes, HoldCounty, HoldSegments, HoldsShapes, file_name}
 use Rattle.refusals.specs.Refusal.{RefusalParts}
 use Rattle.refusals.specs.declared.refusal.Position.TheVariants.{FileLine}
 use Rattle.commands.specs.Counties.{IsInFile, IsRefusedFile}
 use Rattle.commands.specs.Failure.{refusal_status}
-use Rattle.named_files.specs.Files.{Closes, CountsClose, Disk, IsUnfailed, KeepsCounts, ReadCounts}
+use Rattle.named_files.specs.Files.{CountsClose, KeepsCounts, ReadCounts}
 use Rattle.named_files.proofs.FileLemmas.{broken_close, keeps_both, sound_close}
 
 -- a reader's count of failed reads has changed if the status is 3, and only then
@@ -86,20 +89,9 @@ fault_close folder code file of old new unread closes is = let reads = file_read
 failed_as : {old new : Reader} → new ≡ old → new.failed ≡ old.failed
 failed_as = ap (λ (reader : Reader). reader.failed)
 
--- the same, starting from equal counts
-pub closes_from : {folder code : List ℕ} {readers : CountyReaders} {disk between disk' : Disk} → IsUnfailed disk between
-    → Closes (ClosesCounty folder code readers) between disk' → ClosesCounty folder code readers disk.failed_reads disk'.failed_reads
-closes_from {folder} {code} {readers} {disk' = disk'} before closes =
-    subst (λ (failed : ReadCounts). ClosesCounty folder code readers failed disk'.failed_reads) (fun_ext before.reads) closes.reads
-
--- nothing was read
-pub fresh_closed : {known : List ℕ → Option (List ℕ)} {folder code : List ℕ} {readers : CountyReaders} {failed failed' : ReadCounts}
-    → HoldCounty known folder code readers → ClosesCounty folder code readers failed failed' → KeepsCounts failed failed'
-fresh_closed hold closes name = closes.rt6.0 hold.joined.rt6.failed name ∙ closes.rt5.0 hold.joined.rt5.failed name
-    ∙ closes.rt4.0 hold.joined.rt4.failed name ∙ closes.rt1.0 hold.rt1.failed name
-
-module _ {known : List ℕ → Option (List ℕ)} {folder code : List ℕ} {old new : CountyReaders} {failed failed' : ReadCounts}
-    (hold : HoldCounty known folder code old) (closes : ClosesCounty folder code new failed failed') where
+-- the readers of the files that a county's segments are made from are closed
+module _ {known : List ℕ → Option (List ℕ)} {folder code : List ℕ} {old new : SegmentReaders} {failed failed' : ReadCounts}
+    (hold : HoldSegments known folder code old) (closes : ClosesSegments folder code new failed failed') where
   open hold use {rt1 as was_rt1, joined.{rt4 as was_rt4, rt5 as was_rt5, rt6 as was_rt6}}
 
   -- no read of one of the files failed
@@ -122,8 +114,8 @@ module _ {known : List ℕ → Option (List ℕ)} {folder code : List ℕ} {old 
   pub unread_closed : new ≡ old → KeepsCounts failed failed'
   unread_closed same = sound_closed (subst (AreUnfailed old) (sym same) (record { rt1 = refl; rt4 = refl; rt5 = refl; rt6 = refl }))
 
-  pub loads_closed : (county : CountyParts) → LoadsCounty county old new → KeepsCounts failed failed'
-  loads_closed county is = let joined = is.reads_joined in
+  pub loads_closed : (segments : List SegmentParts) → LoadsSegments segments old new → KeepsCounts failed failed'
+  loads_closed segments is = let joined = is.reads_joined in
       sound_closed (record { rt1 = is.rt1.reads; rt4 = joined.rt4.reads; rt5 = joined.rt5.reads; rt6 = joined.rt6.reads })
 
   -- only reads of one file may have failed
@@ -139,16 +131,83 @@ module _ {known : List ℕ → Option (List ℕ)} {folder code : List ℕ} {old 
       then_reads (keeps_both (sound_rt1 (failed_as rt1)) (keeps_both (sound_rt4 rt4.1.reads) (sound_rt5 rt5.1.reads)))
       (fault_close folder code Rt6 of old.joined.rt6 new.joined.rt6 was_rt6.failed closes.rt6 is)
 
-  -- a county isn't loaded
-  pub county_closed : (of : LoadFault) → IsCountyFault of old new → ReadsAs (IsRefusedFile folder code) (load_fault.refusal of) failed failed'
-  county_closed of (before_rt1 joined rt1) = joined_closed of joined rt1
-  county_closed of (in_rt1 lines joined is) =
+  -- they aren't loaded
+  pub segments_closed : (of : LoadFault) → IsSegmentsFault of old new → ReadsAs (IsRefusedFile folder code) (load_fault.refusal of) failed failed'
+  segments_closed of (before_rt1 joined rt1) = joined_closed of joined rt1
+  segments_closed of (in_rt1 lines joined is) =
       reads_then (fault_close folder code Rt1 of old.rt1 new.rt1 was_rt1.failed closes.rt1 is)
       (keeps_both (sound_rt4 joined.rt4.reads) (keeps_both (sound_rt5 joined.rt5.reads) (sound_rt6 joined.rt6.reads)))
 
--- an extract refused for a county's file is refused for the county's fault
-pub load_refusal : (text_of : TextFormat) (of : LoadFault) (code : List Insn) (old new : CountyReaders) (out out' : Writer)
-    → IsLoadRefusalIn text_of code of old new out out' → IsCountyFault of old new
+-- the reader of the type 2 file is closed, if there is one: nothing was read, or it was read to its end, or it has a fault
+
+module _ (known : Option (List ℕ)) (name : List ℕ) (failed failed' : ReadCounts) where
+  unread_shapes : (shapes : Bool) (old : Option Reader) → HoldsShapes shapes known old → ClosesShapes name old failed failed'
+      → KeepsCounts failed failed'
+  unread_shapes true (Some reader) hold closes = closes.0 hold.failed
+  unread_shapes false None hold closes = closes
+  unread_shapes shapes old hold closes = absurd hold
+
+  read_shapes : (shapes : Bool) (old new : Option Reader) → HoldsShapes shapes known old → ClosesShapes name new failed failed'
+      → (rt2 : List (List ℕ)) → ReadsShapes rt2 old new → KeepsCounts failed failed'
+  read_shapes true (Some old) (Some new) hold closes rt2 reads = sound_close name hold.failed closes reads.reads
+  read_shapes false None None hold closes rt2 reads = closes
+  read_shapes true (Some old) None hold closes rt2 reads = absurd reads
+  read_shapes true None new hold closes rt2 reads = absurd hold
+  read_shapes false None (Some new) hold closes rt2 reads = absurd reads
+  read_shapes false (Some old) new hold closes rt2 reads = absurd hold
+
+module _ (known : Option (List ℕ)) (folder code : List ℕ) where
+  faulty_shapes : (shapes : Bool) (old new : Option Reader) {failed failed' : ReadCounts} → HoldsShapes shapes known old
+      → ClosesShapes (file_name folder code Rt2) new failed failed' → (fault : LoadFault) → IsShapesFault fault old new
+      → ReadsAs (IsRefusedFile folder code) (load_fault.refusal fault) failed failed'
+  faulty_shapes true (Some old) (Some new) hold closes fault is = fault_close folder code Rt2 fault old new hold.failed closes is
+  faulty_shapes true (Some old) None hold closes fault is = absurd is
+  faulty_shapes true None new hold closes fault is = absurd hold
+  faulty_shapes false None new hold closes fault is = absurd is
+  faulty_shapes false (Some old) new hold closes fault is = absurd hold
+
+-- all readers of a county are closed
+module _ {shapes : Bool} {known : List ℕ → Option (List ℕ)} {folder code : List ℕ} {old new : CountyReaders} {failed failed' : ReadCounts}
+    (hold : HoldCounty shapes known folder code old) (closes : ClosesCounty folder code new failed failed') where
+  pub shapes_read : (rt2 : List (List ℕ)) → ReadsShapes rt2 old.shapes new.shapes → KeepsCounts closes.between failed'
+  shapes_read = read_shapes _ (file_name folder code Rt2) closes.between failed' shapes old.shapes new.shapes hold.rt2 closes.rt2
+
+  -- nothing was read
+  pub unread_parts : new.segments ≡ old.segments → new.shapes ≡ old.shapes → KeepsCounts failed failed'
+  unread_parts segments shapes_same =
+      keeps_both (unread_closed hold.segments closes.segments segments)
+      (unread_shapes _ (file_name folder code Rt2) closes.between failed' shapes old.shapes hold.rt2
+      (subst (λ (rt2 : Option Reader). ClosesShapes (file_name folder code Rt2) rt2 closes.between failed') shapes_same closes.rt2))
+
+  pub unread_county : new ≡ old → KeepsCounts failed failed'
+  unread_county same =
+      unread_parts (ap (λ (readers : CountyReaders). readers.segments) same) (ap (λ (readers : CountyReaders). readers.shapes) same)
+
+  -- the county is loaded, or only reads of one file may have failed
+  pub loads_county : (county : CountyParts) → LoadsCounty county old new → KeepsCounts failed failed'
+  loads_county county is =
+      keeps_both (loads_closed hold.segments closes.segments county.segments is.segments) (shapes_read is.shapes.rt2 is.shapes.reads)
+
+  pub shapes_closed : (of : LoadFault) → IsShapesFault of old.shapes new.shapes → new.segments ≡ old.segments
+      → ReadsAs (IsRefusedFile folder code) (load_fault.refusal of) failed failed'
+  shapes_closed of is segments =
+      then_reads (unread_closed hold.segments closes.segments segments)
+      (faulty_shapes _ folder code shapes old.shapes new.shapes hold.rt2 closes.rt2 of is)
+
+  pub county_closed : (of : LoadFault) → IsCountyFault of old new → ReadsAs (IsRefusedFile folder code) (load_fault.refusal of) failed failed'
+  county_closed of (in_shapes is segments) = shapes_closed of is segments
+  county_closed of (in_segments table shapes_loaded is) =
+      reads_then (segments_closed hold.segments closes.segments of is) (shapes_read shapes_loaded.rt2 shapes_loaded.reads)
+
+-- the same, starting from equal counts
+pub county_from : {folder code : List ℕ} {readers : CountyReaders} {before failed failed' : ReadCounts} → KeepsCounts before failed
+    → ClosesCounty folder code readers failed failed' → ClosesCounty folder code readers before failed'
+county_from {folder} {code} {readers} {failed' = failed'} same =
+    subst (λ (failed : ReadCounts). ClosesCounty folder code readers failed failed') (fun_ext same)
+
+-- an extract refused for a county's file is refused for the fault of its segments
+pub load_refusal : (text_of : TextFormat) (of : LoadFault) (code : List Insn) (old new : SegmentReaders) (out out' : Writer)
+    → IsLoadRefusalIn text_of code of old new out out' → IsSegmentsFault of old new
 load_refusal text_of of code old new out out' (extracting.before_rt1 has joined rt1 unwritten) = before_rt1 joined rt1
 load_refusal text_of of code old new out out' (extracting.in_rt1 joined lines line is reads first written) =
     in_rt1 joined reads (subst (λ (of : LoadFault). IsFileFault Rt1 of old.rt1 new.rt1) (sym is) (refl, lines, first))

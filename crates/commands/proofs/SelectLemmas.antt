@@ -1,5 +1,5 @@
 -- How `select` is carried out: the filter first, and then the header and the counties.
-use Rattle.std.proofs.Common.{◌≡◌, ◌≢◌, ◌<◌, ◌+◌, ℕ, suc, Bool, true, false, List, length, get_or, take, drop, Option, Bor, Result, Ok, Err, IfErr}
+use Rattle.std.proofs.Common.{◌≡◌, ◌≢◌, ◌<◌, ◌+◌, ℕ, suc, List, length, get_or, take, drop, Option, Bor, Result, Ok, Err, IfErr}
 use Rattle.std.proofs.Common.{inl, inr, refl, sym, subst, ◌∙◌}
 use Rattle.std.proofs.Math.Path.{fun_ext}
 use Rattle.std.proofs.lemmas.List.{map_more}
@@ -7,7 +7,7 @@ use Rattle.std.specs.Io.KnownBytes.{Appends}
 use Rattle.std.specs.Prelude.{⊤}
 use Rattle.bpf_insn.specs.declared.instruction.Insn.{Insn}
 use Rattle.cql2.specs.declared.filter.Filter.{Filter as AFilter}
-use Rattle.cql2_code.proofs.Compiled.{extract_of_county}
+use Rattle.cql2_code.proofs.Compiled.{extract_of_segments}
 use Rattle.cql2_code.specs.Chosen.{Chooses}
 use Rattle.extract.specs.ExtractFault.{of_load}
 use Rattle.extract.specs.declared.fault.ExtractFault.{ExtractFault}
@@ -18,16 +18,15 @@ use Rattle.counted_io.specs.ReaderWriter.{Writer}
 use Rattle.counted_io.specs.declared.writing.WriteFault.{WriteFault}
 use Rattle.layers.specs.Layer.{LayerParts, WritesHeader, has_shapes, layer_format}
 use Rattle.layers.specs.LayerParts.{parts_of}
-use Rattle.layers.specs.Writing.{IsLayerOutcome, LayerReaders}
+use Rattle.layers.specs.Writing.{IsLayerOutcome}
+use Rattle.tl_segments.specs.County.{CountyReaders}
 use Rattle.tl_segments.specs.Shape.{shape_parts}
-use Rattle.tl_segments.specs.declared.fault.CountyFile.{CountyFile as CountyFileType}
 use Rattle.tl_segments.specs.declared.fault.LoadFault.{LoadFault}
-use Rattle.named_files.specs.County.{IsLoaded}
+use Rattle.named_files.specs.County.{HoldCounty, IsFileOfCounty}
 use Rattle.named_files.specs.Files.{Disk, IsUnfailed, OpenResults}
 use Rattle.commands.specs.Command.{CarriesOut, IsCarriedOut, IsFilterRefused}
 use Rattle.commands.specs.Counties.{IsFileOfOne}
 use Rattle.commands.specs.Failure.{NamesFile, IsUnfailedUnlessUnusable, of_county_extract, status}
-use Rattle.commands.specs.LayerInputs.{HoldLayer, IsFileOfLayer, IsLayerFile}
 use Rattle.commands.specs.Select.{FailsAs, IsCountyOutcome, IsCountyRefusal, IsFileOf, Selection, SelectsCounties, SelectsCounty, SelectsLayer, StopsAt}
 use Rattle.commands.specs.Select as select
 use Rattle.commands.specs.Select.{WritesAllTexts, WritesCounties, WritesCounty, WritesTexts, codes_of, more, none, selection}
@@ -39,18 +38,13 @@ use Rattle.commands.specs.declared.failure.Failure.TheVariants.{Write, CountyFil
 use Rattle.commands.proofs.CountiesLemmas.{codes_at, read_after, texts}
 use Rattle.commands.proofs.LayerLemmas.{ClosesAs}
 
--- a file that a county is loaded from is among those that its layer is made from
-loaded_file : (shapes : Bool) (file : CountyFileType) → IsLoaded file → IsLayerFile shapes file
-loaded_file true file is = tt
-loaded_file false file is = is
-
 -- a refusal for the file of type 2 is no success
 not_refused : {count : ℕ} (fault : LoadFault) → Ok count ≡ Err (of_load fault) → ⊥
 not_refused fault is = cc is
 
 -- written counties count no fault and no flush
 
-county_counts : (layer : LayerParts) (program : List Insn) {count : ℕ} {old new : LayerReaders} {out out' : Writer}
+county_counts : (layer : LayerParts) (program : List Insn) {count : ℕ} {old new : CountyReaders} {out out' : Writer}
     → IsLayerOutcome layer program (Ok count) old new out out' → out'.counts ≡ out.counts
 county_counts layer program (inl is) = absurd (not_refused is.fault is.is_result)
 county_counts layer program (inr is) = is.outcome.counts
@@ -63,21 +57,21 @@ counties_counts {over} (more code before wrote) = county_counts over.layer over.
 -- what was written is the texts of the segments for which the filter is true
 module _ {A : Type 0} (filter : AFilter A) (arguments : Select) (known : List ℕ → Option (List ℕ)) (program : List Insn)
     (chooses : Chooses program filter arguments.filter_options.score) where
-  texts_written : {code : List ℕ} {out out' : Writer} (old new : LayerReaders)
-      → HoldLayer (has_shapes (parts_of arguments.layer)) known arguments.«data».now code old → {count : ℕ}
+  texts_written : {code : List ℕ} {out out' : Writer} (old new : CountyReaders)
+      → HoldCounty (has_shapes (parts_of arguments.layer)) known arguments.«data».now code old → {count : ℕ}
       → IsLayerOutcome (parts_of arguments.layer) program (Ok count) old new out out' → WritesTexts filter arguments known code out out'
   texts_written old new hold (inl is) = absurd (not_refused is.fault is.is_result)
   texts_written {out = out} {out' = out'} old new hold {count} (inr wrote) = let is = wrote.outcome in record {
     old = old;
     hold = hold;
     new = new;
-    county = is.county;
+    segments = is.segments;
     loads = is.loads;
     rt2 = wrote.rt2;
     reads = wrote.reads;
     written = subst (λ (text : List ℕ). Appends out.held out'.held text)
-        (extract_of_county (layer_format (parts_of arguments.layer) (shape_parts wrote.rt2)) program filter arguments.filter_options.score chooses
-        is.county old.county new.county is.loads is.text count is.is_extract).text_is
+        (extract_of_segments (layer_format (parts_of arguments.layer) (shape_parts wrote.rt2)) program filter arguments.filter_options.score chooses
+        is.segments old.segments new.segments is.loads is.text count is.is_extract).text_is
         is.written;
     counts = is.counts;
   }
@@ -216,7 +210,7 @@ module _ {R : Type 0} (opens : OpenResults R) (disk disk' : Disk) (out out' : Wr
       → IsCodeOfText text arguments.filter_options program
       → SelectsLayer (selection disk.known arguments.«data».now (parts_of arguments.layer) program) (texts codes) result out out'
       → IfErr result (λ failure. FailsAs opens arguments.«data».now failure disk disk')
-      → IfErr result (NamesFile (IsFileOfOne (IsFileOfLayer (has_shapes (parts_of arguments.layer)) arguments.«data».now) (texts codes)))
+      → IfErr result (NamesFile (IsFileOfOne (IsFileOfCounty (has_shapes (parts_of arguments.layer)) arguments.«data».now) (texts codes)))
       → IsUnfailedUnlessUnusable result disk disk' → out'.counts.flushes ≡ out.counts.flushes
       → CarriesOut opens (request.Select arguments) result disk disk' out out'
   select_lent result same_text same_codes is selects fails names =
@@ -225,4 +219,4 @@ module _ {R : Type 0} (opens : OpenResults R) (disk disk' : Disk) (out out' : Wr
       SelectsLayer (selection disk.known arguments.«data».now (parts_of arguments.layer) program) (texts codes) result out out') same_codes selects)
       fails
       (subst (λ (codes : List (Bor (List ℕ))). IfErr result (NamesFile
-      (IsFileOfOne (IsFileOfLayer (has_shapes (parts_of arguments.layer)) arguments.«data».now) (texts codes)))) same_codes names)
+      (IsFileOfOne (IsFileOfCounty (has_shapes (parts_of arguments.layer)) arguments.«data».now) (texts codes)))) same_codes names)

@@ -1,5 +1,5 @@
 -- How `trace` is carried out, by how it ends.
-use Rattle.std.proofs.Common.{◌≡◌, ℕ, List, Option, Result, Err, refl, ap, sym, subst, ◌∙◌}
+use Rattle.std.proofs.Common.{◌≡◌, ℕ, false, List, Option, Result, Err, refl, ap, sym, subst, ◌∙◌}
 use Rattle.bpf_meaning.specs.declared.outcome.Outcome.{Outcome}
 use Rattle.refusals.specs.Refusal.{RefusalParts}
 use Rattle.counted_io.specs.ReaderWriter.{Writer}
@@ -17,11 +17,11 @@ use Rattle.commands.specs.declared.request.Request.TheVariants as request
 use Rattle.commands.specs.declared.trace.Trace.{Trace}
 use Rattle.commands.proofs.CarriedLemmas.{refused_carried, written_carried}
 use Rattle.commands.proofs.ClassLemmas.{code_status}
-use Rattle.commands.proofs.ReadLemmas.{ReadsAs, closes_from, county_closed, loads_closed, sound, unread_closed}
+use Rattle.commands.proofs.ReadLemmas.{ReadsAs, county_closed, county_from, loads_county, sound, unread_county}
 
 -- a program that is too long is refused before the county is read
 pub trace_too_long : (trace : Trace) (known : List ℕ → Option (List ℕ)) (out : Writer) (refusal : RefusalParts)
-    → HoldTooLong trace.program.now trace.«data».now trace.code.now known refusal → IsRefused trace known refusal out out
+    → HoldTooLong false trace.program.now trace.«data».now trace.code.now known refusal → IsRefused trace known refusal out out
 trace_too_long trace known out refusal is = record {
   program = is.long.program;
   old = is.readers;
@@ -33,10 +33,10 @@ trace_too_long trace known out refusal is = record {
 
 -- what closing the county's readers counts if there is no outcome
 fault_closed : {known : List ℕ → Option (List ℕ)} {folder code program : List ℕ} {old new : CountyReaders} {failed failed' : ReadCounts}
-    → HoldCounty known folder code old → ClosesCounty folder code new failed failed' → (refusal : RefusalParts)
+    → HoldCounty false known folder code old → ClosesCounty folder code new failed failed' → (refusal : RefusalParts)
     → IsTraceFault program old new refusal → ReadsAs (IsRefusedFile folder code) refusal failed failed'
 fault_closed hold closes refusal (of_code fault first is same) =
-    sound (λ three. code_status fault (ap refusal_status (sym is) ∙ three)) (unread_closed hold closes same)
+    sound (λ three. code_status fault (ap refusal_status (sym is) ∙ three)) (unread_county hold closes same)
 fault_closed {folder = folder} {code = county_code} {failed = failed} {failed' = failed'} hold closes refusal (of_county code has fault loads is) =
     subst (λ (refusal : RefusalParts). ReadsAs (IsRefusedFile folder county_code) refusal failed failed') (sym is)
     (county_closed hold closes fault loads)
@@ -51,7 +51,7 @@ module _ {R : Type 0} {opens : OpenResults R} {trace : Trace} {disk between disk
       → CarriesOut opens (request.Trace trace) result disk disk' out out'
   outcome_written {outcome} result is wrote =
       written_carried (outcome_line outcome) result wrote
-      (record { opens = closes.opens ∙ before.opens; reads = loads_closed hold.county (closes_from before closes) is.county is.loads })
+      (record { opens = closes.opens ∙ before.opens; reads = loads_county hold.county (county_from before.reads closes.reads) is.county is.loads })
       (λ _ writes. record {
         program = program;
         old = old;
@@ -67,13 +67,13 @@ module _ {R : Type 0} {opens : OpenResults R} {trace : Trace} {disk between disk
       → CarriesOut opens (request.Trace trace) (Err failure) disk disk' out out
   stopped (Refusal refusal) is =
       refused_carried refusal (record { program = program; old = old; hold = hold; new = new; fault = is; unwritten = refl })
-      (closes.opens ∙ before.opens) (fault_closed hold.county (closes_from before closes) refusal is) refl
+      (closes.opens ∙ before.opens) (fault_closed hold.county (county_from before.reads closes.reads) refusal is) refl
   stopped (NoLine line) is = record {
     outcome = (refl, record { is_line = is.0; program = program; old = old; hold = hold; new = new; without = is.1 });
     names = tt;
     counts = λ no. record {
       opens = closes.opens ∙ before.opens;
-      reads = loads_closed hold.county (closes_from before closes) is.1.county is.1.loads;
+      reads = loads_county hold.county (county_from before.reads closes.reads) is.1.county is.1.loads;
     };
     unflushed = refl;
   }

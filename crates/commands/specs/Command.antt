@@ -1,5 +1,5 @@
 -- What a command guarantees for each exit status.
-use Rattle.std.specs.Prelude.{◌≡◌, ◌≢◌, ℕ, List, [], ◌∷◌, ◌++◌, codes, decimal, Option, Some, None, Result, Ok, Err, IfErr, IsUtf8}
+use Rattle.std.specs.Prelude.{◌≡◌, ◌≢◌, ℕ, false, List, [], ◌∷◌, ◌++◌, codes, decimal, Option, Some, None, Result, Ok, Err, IfErr, IsUtf8}
 use Rattle.std.specs.Io.KnownBytes.{Keeps}
 use Rattle.std.specs.declared.io.Error.{Error}
 use Rattle.refusals.specs.Refusal.{RefusalParts, line}
@@ -109,8 +109,8 @@ pub record IsNotUtf8 (request : Request) (known : List ℕ → Option (List ℕ)
 -- the request reads a file of this name
 abbrev pub IsFileOf : Request → List ℕ → Type 0
 IsFileOf (Run arguments) name = run.IsFileOf arguments name
-IsFileOf (Trace arguments) name = IsInput arguments.program.now arguments.«data».now arguments.code.now name
-IsFileOf (Geocode arguments) name = IsFileOfCounties arguments.«data».now (geocode.codes_of arguments) name
+IsFileOf (Trace arguments) name = IsInput false arguments.program.now arguments.«data».now arguments.code.now name
+IsFileOf (Geocode arguments) name = IsFileOfCounties false arguments.«data».now (geocode.codes_of arguments) name
 IsFileOf (GeocodeBatch arguments) name = geocode_batch.IsFileOf arguments name
 IsFileOf (Verify arguments) name = name ≡ arguments.program.now
 IsFileOf (Explain arguments) name = explain.IsFileOf arguments name

@@ -1,5 +1,5 @@
--- The counties of a list of codes, loaded in order from their files in a folder.
-use Rattle.std.specs.Prelude.{◌≡◌, ℕ, List, ◌∷◌, ◌++◌, Option, ⊤}
+-- The counties of a list of codes, loaded in order from their files in a folder, with their shapes if these are wanted.
+use Rattle.std.specs.Prelude.{◌≡◌, ℕ, Bool, List, ◌∷◌, ◌++◌, Option, ⊤}
 use Rattle.std.specs.List.{AllZip}
 use Rattle.tl_segments.specs.County.{CountyParts, CountyReaders, IsCountyFault, LoadsCounty}
 use Rattle.refusals.specs.Refusal.{RefusalParts}
@@ -15,35 +15,35 @@ use Rattle.commands.specs.declared.failure.Failure.{Failure}
 use Rattle.commands.specs.declared.failure.Failure.TheVariants.{Refusal, Memory, CountyFile}
 
 -- the county of this code is loaded from its files in the folder, whose bytes agree with what is known of them
-pub record IsCountyOf (known : List ℕ → Option (List ℕ)) (folder code : List ℕ) (county : CountyParts) : Type 0 where
+pub record IsCountyOf (shapes : Bool) (known : List ℕ → Option (List ℕ)) (folder code : List ℕ) (county : CountyParts) : Type 0 where
   pub old : CountyReaders
-  pub hold : HoldCounty known folder code old
+  pub hold : HoldCounty shapes known folder code old
   pub new : CountyReaders
   pub loads : LoadsCounty county old new
 
 -- one county for each code, in order
-abbrev pub AreCountiesOf : (List ℕ → Option (List ℕ)) → List ℕ → List (List ℕ) → List CountyParts → Type 0
-AreCountiesOf known folder codes counties = AllZip (IsCountyOf known folder) codes counties
+abbrev pub AreCountiesOf : Bool → (List ℕ → Option (List ℕ)) → List ℕ → List (List ℕ) → List CountyParts → Type 0
+AreCountiesOf shapes known folder codes counties = AllZip (IsCountyOf shapes known folder) codes counties
 
 -- the county of this code is refused with this refusal, for its files' first fault
-pub record IsRefusedCounty (known : List ℕ → Option (List ℕ)) (folder code : List ℕ) (refusal : RefusalParts) : Type 0 where
+pub record IsRefusedCounty (shapes : Bool) (known : List ℕ → Option (List ℕ)) (folder code : List ℕ) (refusal : RefusalParts) : Type 0 where
   pub old : CountyReaders
-  pub hold : HoldCounty known folder code old
+  pub hold : HoldCounty shapes known folder code old
   pub new : CountyReaders
   pub fault : LoadFault
   pub is_fault : IsCountyFault fault old new
   pub is_refusal : refusal ≡ load_fault.refusal fault
 
 -- the county of one of the codes is refused with this refusal, and those before it are loaded
-pub record HaveRefusedCounty (known : List ℕ → Option (List ℕ)) (folder : List ℕ) (codes : List (List ℕ))
+pub record HaveRefusedCounty (shapes : Bool) (known : List ℕ → Option (List ℕ)) (folder : List ℕ) (codes : List (List ℕ))
     (refusal : RefusalParts) : Type 0 where
   pub before : List (List ℕ)
   pub code : List ℕ
   pub following : List (List ℕ)
   pub are_codes : codes ≡ before ++ code ∷ following
   pub counties : List CountyParts
-  pub loaded : AreCountiesOf known folder before counties
-  pub refused : IsRefusedCounty known folder code refusal
+  pub loaded : AreCountiesOf shapes known folder before counties
+  pub refused : IsRefusedCounty shapes known folder code refusal
 
 -- a file of this name belongs to one of the codes, as `IsFile` describes
 pub record IsFileOfOne (IsFile : List ℕ → List ℕ → Type 0) (codes : List (List ℕ)) (name : List ℕ) : Type 0 where
@@ -54,8 +54,8 @@ pub record IsFileOfOne (IsFile : List ℕ → List ℕ → Type 0) (codes : List
   pub is_file : IsFile code name
 
 -- the county of one of the codes is loaded from a file of this name
-abbrev pub IsFileOfCounties : List ℕ → List (List ℕ) → List ℕ → Type 0
-IsFileOfCounties folder codes name = IsFileOfOne (IsFileOfCounty folder) codes name
+abbrev pub IsFileOfCounties : Bool → List ℕ → List (List ℕ) → List ℕ → Type 0
+IsFileOfCounties shapes folder codes name = IsFileOfOne (IsFileOfCounty shapes folder) codes name
 
 -- the refusal is for a line of this file of a county; its text shows the record type and the line
 abbrev pub IsInFile : CountyFileType → RefusalParts → Type 0

@@ -1,5 +1,5 @@
 -- What `geocode` writes, and why it is refused.
-use Rattle.std.specs.Prelude.{◌≡◌, ℕ, List, map, Option, Result}
+use Rattle.std.specs.Prelude.{◌≡◌, ℕ, false, List, map, Option, Result}
 use Rattle.geocode.specs.HitLine.{hit_lines}
 use Rattle.geocode.specs.Query.{hits_of, parts_of}
 use Rattle.refusals.specs.Refusal.{RefusalParts}
@@ -18,10 +18,10 @@ codes_of geocode = map (λ code. code.now) geocode.codes.items
 pub record Writes (geocode : Geocode) (known : List ℕ → Option (List ℕ)) (result : Result (Unit {0}) WriteFault)
     (out out' : Writer) : Type 0 where
   pub counties : List CountyParts
-  pub are_counties : AreCountiesOf known geocode.«data».now (codes_of geocode) counties
+  pub are_counties : AreCountiesOf false known geocode.«data».now (codes_of geocode) counties
   pub written : WritesText (hit_lines (hits_of (parts_of geocode.query) counties)) result out out'
 
 -- One of the counties is refused, and nothing was written.
 pub record IsRefused (geocode : Geocode) (known : List ℕ → Option (List ℕ)) (refusal : RefusalParts) (out out' : Writer) : Type 0 where
-  pub refused : HaveRefusedCounty known geocode.«data».now (codes_of geocode) refusal
+  pub refused : HaveRefusedCounty false known geocode.«data».now (codes_of geocode) refusal
   pub unwritten : out' ≡ out

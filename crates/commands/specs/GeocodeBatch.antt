@@ -1,6 +1,5 @@
 -- What `geocode-batch` writes, and why it is refused.
-use Rattle.std.specs.Prelude.{◌≡◌, ◌⊎◌, ⊤, ℕ, List, ◌++◌, map, take, Option, Some, None, Result, Ok, Err}
-use Rattle.std.specs.Bool.{IsTrue}
+use Rattle.std.specs.Prelude.{◌≡◌, ◌⊎◌, ⊤, ℕ, Bool, true, false, List, ◌++◌, map, take, Option, Some, None, Result, Ok, Err}
 use Rattle.std.specs.List.{AllZip, concat}
 use Rattle.std.specs.Io.KnownBytes.{Keeps}
 use Rattle.addresses.specs.Address.{AddressParts}
@@ -8,15 +7,14 @@ use Rattle.addresses.specs.AddressFault as address_fault
 use Rattle.addresses.specs.Listing.{Listing, addresses_in}
 use Rattle.addresses.specs.declared.fault.AddressFault.{AddressFault}
 use Rattle.addresses.specs.declared.fault.AddressFault.TheVariants as fault
-use Rattle.batch.specs.Lines.{header, lines_of}
-use Rattle.batch.specs.ShapedLookup.{AreShapedLines}
+use Rattle.address_batch.specs.Lines.{header, lines_of}
+use Rattle.address_batch.specs.ShapedLookup.{AreShapedLines}
 use Rattle.refusals.specs.Refusal.{RefusalParts, memory}
 use Rattle.counted_io.specs.ReaderWriter.{Writer}
 use Rattle.counted_io.specs.Writing.{WritesText}
 use Rattle.counted_io.specs.declared.writing.WriteFault.{WriteFault}
 use Rattle.tl_segments.specs.County.{CountyParts}
 use Rattle.commands.specs.Counties.{AreCountiesOf, HaveRefusedCounty, IsFileOfCounties}
-use Rattle.commands.specs.CountyShapes.{HaveRefusedShapes, HaveShapeLinesIf, IsShapesFile}
 use Rattle.commands.specs.declared.failure.Failure.{Failure}
 use Rattle.commands.specs.declared.failure.Failure.TheVariants.{Refusal, Write}
 use Rattle.commands.specs.declared.geocode_batch.GeocodeBatch.{GeocodeBatch}
@@ -25,12 +23,10 @@ use Rattle.commands.specs.declared.geocode_batch.GeocodeBatch.{GeocodeBatch}
 abbrev pub codes_of : GeocodeBatch → List (List ℕ)
 codes_of batch = map (λ code. code.now) batch.codes.items
 
--- this is the name of the file of addresses, of a file that one of the counties is loaded from, or, if places are along shapes, of the type 2 file of
--- one of the counties
+-- this is the name of the file of addresses, or of a file that one of the counties is loaded from
 abbrev pub IsFileOf : GeocodeBatch → List ℕ → Type 0
 IsFileOf batch name =
-    (name ≡ batch.addresses.now) ⊎ IsFileOfCounties batch.«data».now (codes_of batch) name
-    ⊎ (IsTrue batch.shape × IsShapesFile batch.«data».now (codes_of batch) name)
+    (name ≡ batch.addresses.now) ⊎ IsFileOfCounties batch.shape batch.«data».now (codes_of batch) name
 
 -- the file has these addresses and no fault
 abbrev pub AreAddressesOf : List ℕ → List AddressParts → Type 0
@@ -50,24 +46,22 @@ abbrev pub IsAddressesFault : List ℕ → AddressFault → Type 0
 IsAddressesFault file fault.Memory = ⊤
 IsAddressesFault file fault = IsFaultOf file fault
 
--- the file of addresses, the requested counties, and their type 2 lines if places are along shapes; the files' bytes agree with what is known of them
+-- the file of addresses, and the requested counties, with their shapes if places are along them; the files' bytes agree with what is known of them
 pub record Inputs (batch : GeocodeBatch) (known : List ℕ → Option (List ℕ)) : Type 0 where
   pub file : List ℕ
   pub is_file : Keeps (known batch.addresses.now) (Some file)
   pub counties : List CountyParts
-  pub are_counties : AreCountiesOf known batch.«data».now (codes_of batch) counties
-  pub rt2 : Option (List (List (List ℕ)))
-  pub have_lines : HaveShapeLinesIf batch.shape known batch.«data».now (codes_of batch) rt2
+  pub are_counties : AreCountiesOf batch.shape known batch.«data».now (codes_of batch) counties
 
--- the lines of an address in counties with these codes: if there are type 2 lines, each match is in its place along the shape of its segment, and
--- otherwise on the straight line between its ends
-abbrev pub AreLinesIn : Option (List (List (List ℕ))) → List (List ℕ) → List CountyParts → AddressParts → List ℕ → Type 0
-AreLinesIn (Some rt2) codes counties address lines = AreShapedLines rt2 codes counties address lines
-AreLinesIn None codes counties address lines = lines ≡ lines_of codes counties address
+-- the lines of an address in counties with these codes: each match is in its place along the shape of its segment, or on the straight line between
+-- its ends
+abbrev pub AreLinesIn : Bool → List (List ℕ) → List CountyParts → AddressParts → List ℕ → Type 0
+AreLinesIn true codes counties address lines = AreShapedLines codes counties address lines
+AreLinesIn false codes counties address lines = lines ≡ lines_of codes counties address
 
 -- the lines of an address in the counties
 abbrev pub AreLinesOf : {batch : GeocodeBatch} {known : List ℕ → Option (List ℕ)} → Inputs batch known → AddressParts → List ℕ → Type 0
-AreLinesOf {batch} inputs = AreLinesIn inputs.rt2 (codes_of batch) inputs.counties
+AreLinesOf {batch} inputs = AreLinesIn batch.shape (codes_of batch) inputs.counties
 
 -- the header and the lines of each of these addresses, in order
 pub record IsOutput (AreLines : AddressParts → List ℕ → Type 0) (addresses : List AddressParts) (text : List ℕ) : Type 0 where
@@ -110,18 +104,10 @@ pub record AreAddressesRefused (batch : GeocodeBatch) (known : List ℕ → Opti
   pub is_fault : IsFaultOf inputs.file fault
   pub refused : refusal ≡ address_fault.refusal fault
 
--- Places are along shapes, the counties are loaded, and the type 2 file of one of them is refused.
-pub record AreShapesRefused (batch : GeocodeBatch) (known : List ℕ → Option (List ℕ)) (refusal : RefusalParts) : Type 0 where
-  pub wanted : IsTrue batch.shape
-  pub counties : List CountyParts
-  pub are_counties : AreCountiesOf known batch.«data».now (codes_of batch) counties
-  pub refused : HaveRefusedShapes known batch.«data».now (codes_of batch) refusal
-
--- Why `geocode-batch` is refused otherwise. One of the counties is refused, or its type 2 file, and nothing was written. Or an allocation failed, and
+-- Why `geocode-batch` is refused otherwise. One of the counties is refused, and nothing was written. Or an allocation failed, and
 -- either nothing was written, or the header and the lines of the first few addresses.
 pub data IsRefused (batch : GeocodeBatch) (known : List ℕ → Option (List ℕ)) (refusal : RefusalParts) (out out' : Writer) : Type 0 where
-  of_county : HaveRefusedCounty known batch.«data».now (codes_of batch) refusal → out' ≡ out → IsRefused batch known refusal out out'
-  of_shapes : AreShapesRefused batch known refusal → out' ≡ out → IsRefused batch known refusal out out'
+  of_county : HaveRefusedCounty batch.shape known batch.«data».now (codes_of batch) refusal → out' ≡ out → IsRefused batch known refusal out out'
   of_memory : refusal ≡ memory → (out' ≡ out) ⊎ WritesFirst batch known out out' → IsRefused batch known refusal out out'
 
 -- Such a text was written, completely or until the output failed. Or an allocation failed, after what `WritesBefore` describes was written.

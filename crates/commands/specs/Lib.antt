@@ -1,9 +1,7 @@
 pub mod Escape
 pub mod Failure
 pub mod Counties
-pub mod CountyShapes
 pub mod Inputs
-pub mod LayerInputs
 pub mod Run
 pub mod Trace
 pub mod Geocode

@@ -9,11 +9,10 @@ use Rattle.extract.specs.declared.fault.ExtractFault.{ExtractFault}
 use Rattle.extract.specs.declared.fault.ExtractFault.TheVariants as extract
 use Rattle.layers.specs.Layer.{LayerParts, has_shapes}
 use Rattle.layers.specs.LayerParts.{parts_of}
-use Rattle.layers.specs.Writing.{IsHeadedOutcome, LayerReaders}
-use Rattle.named_files.specs.County.{file_name}
-use Rattle.tl_segments.specs.declared.fault.CountyFile.TheVariants.{Rt2}
+use Rattle.layers.specs.Writing.{IsHeadedOutcome}
+use Rattle.named_files.specs.County.{IsFileOfCounty}
+use Rattle.tl_segments.specs.County.{CountyReaders}
 use Rattle.commands.specs.Inputs.{HoldInputs}
-use Rattle.commands.specs.LayerInputs.{HoldsShapes, IsFileOfLayer}
 use Rattle.commands.specs.declared.run.Run.{Run}
 
 -- whether the points of shapes are written
@@ -22,13 +21,13 @@ wants_shapes run = has_shapes (parts_of run.layer)
 
 -- the program and the county's layer are read from a file of this name
 abbrev pub IsFileOf : Run → List ℕ → Type 0
-IsFileOf run name = (name ≡ run.program.now) ⊎ IsFileOfLayer (wants_shapes run) run.«data».now run.code.now name
+IsFileOf run name = (name ≡ run.program.now) ⊎ IsFileOfCounty (wants_shapes run) run.«data».now run.code.now name
 
 -- The effect of writing what a program selects in a county as a layer. The program is refused, and nothing was read or written. Or memory runs out
 -- before anything is. Or its code is safe, and the header and the county's layer are written.
-abbrev pub IsProgramOutcome : LayerParts → List ℕ → Result ℕ ExtractFault → LayerReaders → LayerReaders → Writer → Writer → Type 0
+abbrev pub IsProgramOutcome : LayerParts → List ℕ → Result ℕ ExtractFault → CountyReaders → CountyReaders → Writer → Writer → Type 0
 IsProgramOutcome layer program (Err (extract.Program fault)) old new out out' =
-    IsProgramRefusal program fault old.county new.county out out' × (new.rt2 ≡ old.rt2)
+    IsProgramRefusal program fault old.segments new.segments out out' × (new.shapes ≡ old.shapes)
 IsProgramOutcome layer program (Err extract.Memory) old new out out' =
     ((new ≡ old) × (out' ≡ out)) ⊎ HasSafeCode program (λ code. IsHeadedOutcome layer code (Err extract.Memory) old new out out')
 IsProgramOutcome layer program result old new out out' =
@@ -37,10 +36,9 @@ IsProgramOutcome layer program result old new out out' =
 -- the outcome of the named program in the county, read from files whose bytes agree with what is known of them
 pub record IsOutcomeOf (run : Run) (known : List ℕ → Option (List ℕ)) (result : Result ℕ ExtractFault) (out out' : Writer) : Type 0 where
   pub program : List ℕ
-  pub old : LayerReaders
-  pub hold : HoldInputs known run.program.now run.«data».now run.code.now program old.county
-  pub shapes : HoldsShapes (wants_shapes run) (known (file_name run.«data».now run.code.now Rt2)) old.rt2
-  pub new : LayerReaders
+  pub old : CountyReaders
+  pub hold : HoldInputs (wants_shapes run) known run.program.now run.«data».now run.code.now program old
+  pub new : CountyReaders
   pub outcome : IsProgramOutcome (parts_of run.layer) program result old new out out'
 
 -- the layer was written, completely or until the output failed

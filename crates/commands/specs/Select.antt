@@ -14,16 +14,16 @@ use Rattle.cql2_code.specs.Chosen.{selection_of}
 use Rattle.bpf_meaning.specs.Extract.{texts_of}
 use Rattle.layers.specs.Layer.{LayerParts, WritesHeader, has_shapes, layer_format}
 use Rattle.layers.specs.LayerParts.{parts_of}
-use Rattle.layers.specs.ShapeTable.{ReadsShapes}
-use Rattle.layers.specs.Writing.{IsLayerOutcome, LayerReaders}
-use Rattle.tl_segments.specs.County.{CountyParts, LoadsCounty}
+use Rattle.layers.specs.Writing.{IsLayerOutcome}
+use Rattle.tl_segments.specs.County.{CountyReaders, LoadsSegments}
+use Rattle.tl_segments.specs.Segment.{SegmentParts}
 use Rattle.tl_segments.specs.Shape.{shape_parts}
-use Rattle.named_files.specs.County.{file_name}
+use Rattle.tl_segments.specs.Shapes.{ReadsShapes}
+use Rattle.named_files.specs.County.{HoldCounty, IsFileOfCounty, file_name}
 use Rattle.commands.specs.Failure.{refusal_status}
 use Rattle.named_files.specs.Files.{Disk, FailsToOpen, OpenResults}
 use Rattle.commands.specs.Counties.{FailsToRead, IsFileOfOne, IsRefusedFile}
 use Rattle.filters.specs.Filter.{IsCodeOfText, Spells}
-use Rattle.commands.specs.LayerInputs.{HoldLayer, IsFileOfLayer}
 use Rattle.commands.specs.declared.select.Select.{Select}
 use Rattle.commands.specs.declared.failure.Failure.{Failure}
 use Rattle.commands.specs.declared.failure.Failure.TheVariants.{Write, CountyFile, County}
@@ -34,7 +34,7 @@ codes_of select = map (λ code. code.now) select.codes.items
 
 -- the county of one of the codes is read from a file of this name
 abbrev pub IsFileOf : Select → List ℕ → Type 0
-IsFileOf select name = IsFileOfOne (IsFileOfLayer (has_shapes (parts_of select.layer)) select.«data».now) (codes_of select) name
+IsFileOf select name = IsFileOfOne (IsFileOfCounty (has_shapes (parts_of select.layer)) select.«data».now) (codes_of select) name
 
 -- a program's instructions, the layer that it writes, and the folder of the counties that it runs over, with what is known of the files' bytes by name
 pub record Selection : Type 0 where
@@ -48,24 +48,24 @@ selection known folder layer program = record { known = known; folder = folder; 
 
 -- the outcome of writing the layer of the county of this code
 pub record IsCountyOutcome (over : Selection) (code : List ℕ) (result : Result ℕ ExtractFault) (out out' : Writer) : Type 0 where
-  pub old : LayerReaders
-  pub hold : HoldLayer (has_shapes over.layer) over.known over.folder code old
-  pub new : LayerReaders
+  pub old : CountyReaders
+  pub hold : HoldCounty (has_shapes over.layer) over.known over.folder code old
+  pub new : CountyReaders
   pub outcome : IsLayerOutcome over.layer over.program result old new out out'
 
 -- The files of the county of this code were all read to their ends. Exactly the texts of its segments for which the filter is true were appended, in
 -- order, with their scores and with the shapes of the file of type 2. No write failed.
 pub record WritesTexts {A : Type 0} (filter : Filter A) (select : Select) (known : List ℕ → Option (List ℕ)) (code : List ℕ) (out out' : Writer)
     : Type 0 where
-  pub old : LayerReaders
-  pub hold : HoldLayer (has_shapes (parts_of select.layer)) known select.«data».now code old
-  pub new : LayerReaders
-  pub county : CountyParts
-  pub loads : LoadsCounty county old.county new.county
+  pub old : CountyReaders
+  pub hold : HoldCounty (has_shapes (parts_of select.layer)) known select.«data».now code old
+  pub new : CountyReaders
+  pub segments : List SegmentParts
+  pub loads : LoadsSegments segments old.segments new.segments
   pub rt2 : List (List ℕ)
-  pub reads : ReadsShapes rt2 old.rt2 new.rt2
+  pub reads : ReadsShapes rt2 old.shapes new.shapes
   pub written : Appends out.held out'.held (texts_of (layer_format (parts_of select.layer) (shape_parts rt2))
-      (selection_of filter select.filter_options.score county.segments))
+      (selection_of filter select.filter_options.score segments))
   pub counts : out'.counts ≡ out.counts
 
 -- the texts of the counties of these codes were written, one county after the other

@@ -1,5 +1,5 @@
 -- What `trace` writes, and why it is refused.
-use Rattle.std.specs.Prelude.{◌≡◌, ◌<◌, ◌⊎◌, ℕ, suc, List, [], ◌∷◌, ◌++◌, length, codes, decimal, Option, Some, Result, Ok, Err}
+use Rattle.std.specs.Prelude.{◌≡◌, ◌<◌, ◌⊎◌, ℕ, suc, false, List, [], ◌∷◌, ◌++◌, length, codes, decimal, Option, Some, Result, Ok, Err}
 use Rattle.std.specs.List.{slice_get}
 use Rattle.std.specs.Option.{unwrap_or}
 use Rattle.bpf_insn.specs.Code.{IsCodeOf, IsFirstFault}
@@ -78,7 +78,7 @@ IsTraceResult trace program old new (Err failure) = ⊥
 
 -- the program and the readers hold the requested program's and county's files
 abbrev pub HoldRequested : Trace → (List ℕ → Option (List ℕ)) → List ℕ → CountyReaders → Type 0
-HoldRequested trace known program readers = HoldInputs known trace.program.now trace.«data».now trace.code.now program readers
+HoldRequested trace known program readers = HoldInputs false known trace.program.now trace.«data».now trace.code.now program readers
 
 -- The outcome was written, completely or until the output failed.
 pub record Writes (trace : Trace) (known : List ℕ → Option (List ℕ)) (result : Result (Unit {0}) WriteFault)

@@ -3,35 +3,36 @@ ghost use Rattle.std.specs.Prelude.{◌≡◌, ◌≢◌, ℕ, List, map, IfErr,
 ghost use Rattle.commands.specs.Counties.{AreCountiesOf, HaveRefusedCounty, IsCountyOf, IsFileOfCounties, IsLoadFailure, IsRefusedCounty, IsRefusedFile, IsRefusedFileOfOne};
 ghost use Rattle.named_files.specs.County.{IsFileOfCounty};
 ghost use Rattle.commands.specs.Failure.{NamesFile, IsUnfailedUnlessUnusable, status};
-ghost use Rattle.named_files.specs.Files.{disk};
 
 use crate::failure::Failure;
 use named_files::{Files, close_county, open_county};
 use refusals::Fault;
 use std::alloc::Allocator;
-use tl_segments::{County, CountyFiles};
+use tl_segments::County;
 
-/// Loads the counties of these codes, in order. Reads the files of each county to their ends before opening those of the next.
+/// Loads the counties of these codes, in order, with their shapes if these are wanted. Reads the files of each county to their ends before opening
+/// those of the next.
 pub fn load_counties<'a, A: Allocator + Copy, F: Files>(
     alloc: A,
     files: &mut F,
     folder: &'a str,
     codes: &[&'a str],
+    shapes: bool,
 ) -> Result<Vec<County<A>, A>, Failure<'a>>
     ensures ok { IfOk result (λ counties.
-        AreCountiesOf (F.bytes files.old) folder.now (map (λ code. code.now) codes.now) counties.items) }
-    ensures err { IfErr result (IsLoadFailure F.opens (HaveRefusedCounty (F.bytes files.old) folder.now (map (λ code. code.now) codes.now))
+        AreCountiesOf shapes (F.disk files.old).known folder.now (map (λ code. code.now) codes.now) counties.items) }
+    ensures err { IfErr result (IsLoadFailure F.opens (HaveRefusedCounty shapes (F.disk files.old).known folder.now (map (λ code. code.now) codes.now))
         (IsRefusedFileOfOne folder.now (map (λ code. code.now) codes.now))
-        (disk F.bytes F.failed_opens F.failed_reads files.old) (disk F.bytes F.failed_opens F.failed_reads files.new)) }
-    ensures names { IfErr result (NamesFile (IsFileOfCounties folder.now (map (λ code. code.now) codes.now))) }
-    ensures stay { (other : List ℕ) → F.bytes files.new other ≡ F.bytes files.old other }
+        (F.disk files.old) (F.disk files.new)) }
+    ensures names { IfErr result (NamesFile (IsFileOfCounties shapes folder.now (map (λ code. code.now) codes.now))) }
+    ensures stay { (other : List ℕ) → (F.disk files.new).known other ≡ (F.disk files.old).known other }
     ensures usage { IfErr result (λ failure. status failure ≢ 2) }
-    ensures counts { IsUnfailedUnlessUnusable result (disk F.bytes F.failed_opens F.failed_reads files.old)
-        (disk F.bytes F.failed_opens F.failed_reads files.new) }
+    ensures counts { IsUnfailedUnlessUnusable result (F.disk files.old) (F.disk files.new) }
 {
     let mut counties = Vec::new(alloc);
+    // One after the other, so that only one county's files are open at once.
     for code in codes {
-        match load_county(alloc, files, folder, code) {
+        match load_county(alloc, files, folder, code, shapes) {
             Ok(county) => counties.push(county)?,
             Err(failure) => return Err(failure),
         }
@@ -45,20 +46,20 @@ fn load_county<'a, A: Allocator + Copy, F: Files>(
     files: &mut F,
     folder: &'a str,
     code: &'a str,
+    shapes: bool,
 ) -> Result<County<A>, Failure<'a>>
-    ensures ok { IfOk result (IsCountyOf (F.bytes files.old) folder.now code.now) }
-    ensures err { IfErr result (IsLoadFailure F.opens (IsRefusedCounty (F.bytes files.old) folder.now code.now) (IsRefusedFile folder.now code.now)
-        (disk F.bytes F.failed_opens F.failed_reads files.old) (disk F.bytes F.failed_opens F.failed_reads files.new)) }
-    ensures names { IfErr result (NamesFile (IsFileOfCounty folder.now code.now)) }
-    ensures stay { (other : List ℕ) → F.bytes files.new other ≡ F.bytes files.old other }
-    ensures counts { IsUnfailedUnlessUnusable result (disk F.bytes F.failed_opens F.failed_reads files.old)
-        (disk F.bytes F.failed_opens F.failed_reads files.new) }
+    ensures ok { IfOk result (IsCountyOf shapes (F.disk files.old).known folder.now code.now) }
+    ensures err { IfErr result (IsLoadFailure F.opens (IsRefusedCounty shapes (F.disk files.old).known folder.now code.now) (IsRefusedFile folder.now code.now)
+        (F.disk files.old) (F.disk files.new)) }
+    ensures names { IfErr result (NamesFile (IsFileOfCounty shapes folder.now code.now)) }
+    ensures stay { (other : List ℕ) → (F.disk files.new).known other ≡ (F.disk files.old).known other }
+    ensures counts { IsUnfailedUnlessUnusable result (F.disk files.old) (F.disk files.new) }
 {
-    let mut inputs = match open_county(alloc, files, folder, code) {
+    let mut inputs = match open_county(alloc, files, folder, code, shapes) {
         Ok(inputs) => inputs,
         Err(fault) => return Err(Failure::of_county_file(folder, code, fault)),
     };
-    let loaded = CountyFiles::load(&mut inputs, alloc);
+    let loaded = inputs.load(alloc);
     close_county(files, folder, code, inputs);
     match loaded {
         Ok(county) => Ok(county),

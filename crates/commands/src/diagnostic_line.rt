@@ -24,7 +24,7 @@ impl<'a, W> DiagnosticLine<'a, W> {
 impl<W: CountedWrite> DiagnosticLine<'_, W> {
     /// Writes a value from the user with its control characters escaped.
     pub fn echo(&mut self, text: &str) -> fmt::Result
-        ensures { IfOk result (λ _. Appends (W.contents self.old.out.now) (W.contents self.new.out.now) (escaped text.now)) }
+        ensures { IfOk result (λ _. Appends (W.writer self.old.out.now).held (W.writer self.new.out.now).held (escaped text.now)) }
     {
         write_escaped(self.out, text).map_err(|_| fmt::Error)
     }
@@ -33,7 +33,7 @@ impl<W: CountedWrite> DiagnosticLine<'_, W> {
 impl<W: CountedWrite> fmt::Write for DiagnosticLine<'_, W> {
     // The text follows what was written before.
     ghost write_str_gives = { λ old text new. (new.out.ghost_name ≡ old.out.ghost_name)
-        × Appends (W.contents old.out.now) (W.contents new.out.now) text };
+        × Appends (W.writer old.out.now).held (W.writer new.out.now).held text };
 
     fn write_str(&mut self, text: &str) -> fmt::Result {
         write_text(self.out, text.as_bytes()).map_err(|_| fmt::Error)

@@ -1,9 +1,7 @@
 //! `dis`: disassembles instruction words to a program text.
 ghost use Rattle.std.specs.Prelude.{◌≢◌, IfErr};
-ghost use Rattle.counted_io.specs.ReaderWriter.{writer};
 ghost use Rattle.commands.specs.Command.{CarriesOut};
 ghost use Rattle.commands.specs.Failure.{status};
-ghost use Rattle.named_files.specs.Files.{disk};
 ghost use Rattle.commands.specs.declared.request.Request.{Request};
 
 use crate::failure::{Failure, write};
@@ -28,9 +26,8 @@ impl<'a> Disassemble<'a> {
         files: &mut F,
         out: &mut W,
     ) -> Result<(), Failure<'a>>
-        ensures carried { CarriesOut F.opens (Request.Disassemble self.entry) result
-            (disk F.bytes F.failed_opens F.failed_reads files.old) (disk F.bytes F.failed_opens F.failed_reads files.new)
-            (writer W.contents W.counts out.old) (writer W.contents W.counts out.new) }
+        ensures carried { CarriesOut F.opens (Request.Disassemble self.entry) result (F.disk files.old) (F.disk files.new)
+            (W.writer out.old) (W.writer out.new) }
         ensures usage { IfErr result (λ failure. status failure ≢ 2) }
     {
         let program = match read_program_file(alloc, files, self.program) {

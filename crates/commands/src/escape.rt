@@ -2,7 +2,6 @@
 ghost use Rattle.std.specs.Prelude.{◌≡◌, ◌<◌, length, true, IfSome};
 ghost use Rattle.std.specs.Char.{digit_char, is_ascii_control};
 ghost use Rattle.std.specs.List.{position};
-ghost use Rattle.counted_io.specs.ReaderWriter.{writer};
 ghost use Rattle.counted_io.specs.Writing.{WritesText};
 ghost use Rattle.commands.specs.Escape.{escaped, escaped_byte};
 
@@ -10,8 +9,9 @@ use counted_io::{CountedWrite, WriteFault, write_text};
 
 /// Writes a text with its control characters escaped, or up to the fault of the writer. Nothing is tried again.
 pub fn write_escaped<W: CountedWrite>(out: &mut W, text: &str) -> Result<(), WriteFault>
-    ensures { WritesText (escaped text.now) result (writer W.contents W.counts out.old) (writer W.contents W.counts out.new) }
+    ensures { WritesText (escaped text.now) result (W.writer out.old) (W.writer out.new) }
 {
+    // A name from the user can neither add a line nor control a terminal.
     let mut rest = text.as_bytes();
     while let Some(place) = find_control(rest) {
         match write_text(out, &rest[..place]) {
@@ -38,8 +38,7 @@ fn find_control(text: &[u8]) -> Option<usize>
 /// Writes a control character as Rust's `char::escape_default` does.
 fn write_escape<W: CountedWrite>(out: &mut W, control: u8) -> Result<(), WriteFault>
     requires { is_ascii_control control ≡ true }
-    ensures { WritesText (escaped_byte control) result
-        (writer W.contents W.counts out.old) (writer W.contents W.counts out.new) }
+    ensures { WritesText (escaped_byte control) result (W.writer out.old) (W.writer out.new) }
 {
     let (high, low) = (hex_digit(control / 16), hex_digit(control % 16));
     match control {

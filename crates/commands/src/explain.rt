@@ -1,10 +1,8 @@
 //! `explain`: lists a program with what the verifier knows before each instruction.
 ghost use Rattle.std.specs.Prelude.{◌≢◌, IfOk, IfErr};
-ghost use Rattle.counted_io.specs.ReaderWriter.{writer};
 ghost use Rattle.commands.specs.Command.{CarriesOut};
 ghost use Rattle.commands.specs.Explain.{HoldsLines, IsLinesFailure, WritesExplanation};
 ghost use Rattle.commands.specs.Failure.{IsUnfailedUnlessUnusable, status};
-ghost use Rattle.named_files.specs.Files.{disk};
 ghost use Rattle.commands.specs.declared.request.Request.{Request};
 
 use crate::assemble::SOURCE_END;
@@ -34,9 +32,8 @@ impl<'a> Explain<'a> {
         files: &mut F,
         out: &mut W,
     ) -> Result<(), Failure<'a>>
-        ensures carried { CarriesOut F.opens (Request.Explain self.entry) result
-            (disk F.bytes F.failed_opens F.failed_reads files.old) (disk F.bytes F.failed_opens F.failed_reads files.new)
-            (writer W.contents W.counts out.old) (writer W.contents W.counts out.new) }
+        ensures carried { CarriesOut F.opens (Request.Explain self.entry) result (F.disk files.old) (F.disk files.new)
+            (W.writer out.old) (W.writer out.new) }
         ensures usage { IfErr result (λ failure. status failure ≢ 2) }
     {
         let program = match read_program_file(alloc, files, self.program) {
@@ -60,11 +57,9 @@ fn read_lines_file<'a, A: Allocator, F: Files>(
     files: &mut F,
     name: Option<&'a str>,
 ) -> Result<Vec<u8, A>, Failure<'a>>
-    ensures hold { IfOk result (λ file. HoldsLines (F.bytes files.old) name.entry file.items) }
-    ensures err { IfErr result (IsLinesFailure F.opens name.entry (disk F.bytes F.failed_opens F.failed_reads files.old)
-        (disk F.bytes F.failed_opens F.failed_reads files.new)) }
-    ensures counts { IsUnfailedUnlessUnusable result (disk F.bytes F.failed_opens F.failed_reads files.old)
-        (disk F.bytes F.failed_opens F.failed_reads files.new) }
+    ensures hold { IfOk result (λ file. HoldsLines (F.disk files.old).known name.entry file.items) }
+    ensures err { IfErr result (IsLinesFailure F.opens name.entry (F.disk files.old) (F.disk files.new)) }
+    ensures counts { IsUnfailedUnlessUnusable result (F.disk files.old) (F.disk files.new) }
 {
     let Some(name) = name else {
         return Ok(Vec::new(alloc));
@@ -81,9 +76,9 @@ fn write_explanation<'a, A: Allocator, W: CountedWrite>(
     explanation: Explanation<A>,
     out: &mut W,
 ) -> Result<(), Failure<'a>>
-    ensures { WritesExplanation explanation.text.items explanation.verdict result
-        (writer W.contents W.counts out.old) (writer W.contents W.counts out.new) }
+    ensures { WritesExplanation explanation.text.items explanation.verdict result (W.writer out.old) (W.writer out.new) }
 {
+    // The listing comes before the refusal, so a failed write gives status 3.
     match write(out, explanation.text.as_slice()) {
         Ok(()) => {}
         Err(failure) => return Err(failure),

@@ -1,7 +1,13 @@
 //! Why a command fails: what it reports, and its exit status.
+//!
+//! A variant keeps what its line needs, not the line: the text is made once, by `report`, so that it can be stated exactly and nothing is allocated
+//! after memory ran out. The libraries' refusals keep their own class, from which the status follows; only what a command alone knows (a file's name,
+//! a line that doesn't exist, text that isn't UTF-8) has a variant here. Scripts read the first line and the status, people the lines after it.
+//!
+//! Always: the status is 1 to 4, and 1 only for what a library refused. Whatever a user gave is echoed with its control characters escaped. A report
+//! stops at its first failed write, which changes nothing else.
 ghost use Rattle.std.specs.Prelude.{◌≡◌, ◌≤◌, [], ◌∷◌, ◌++◌, codes, length};
 ghost use Rattle.std.specs.List.{flat_map};
-ghost use Rattle.counted_io.specs.ReaderWriter.{writer};
 ghost use Rattle.counted_io.specs.Writing.{WritesText};
 ghost use Rattle.commands.specs.Escape.{escaped};
 ghost use Rattle.commands.specs.Failure.{IsOfAddresses, IsReason, Reports, ReportsLine, ReportsText, WritesAs, class_status};
@@ -196,7 +202,7 @@ impl<'a> Failure<'a> {
 
     /// Reports the failure on `errors`, up to the first write that fails or writes 0 bytes.
     pub fn report<E: CountedWrite>(&self, errors: &mut E)
-        ensures { Reports self.now (writer E.contents E.counts errors.old) (writer E.contents E.counts errors.new) }
+        ensures { Reports self.now (E.writer errors.old) (E.writer errors.new) }
     {
         match self {
             Failure::Refusal(refusal) => report_line(errors, refusal.line().as_str()),
@@ -284,7 +290,7 @@ fn class_status(class: Class) -> u8
 
 /// Writes the text, completely or until the output fails.
 pub fn write<'a, W: CountedWrite>(out: &mut W, text: &[u8]) -> Result<(), Failure<'a>>
-    ensures { WritesAs text.now result (writer W.contents W.counts out.old) (writer W.contents W.counts out.new) }
+    ensures { WritesAs text.now result (W.writer out.old) (W.writer out.new) }
 {
     match write_text(out, text) {
         Ok(()) => Ok(()),
@@ -303,8 +309,7 @@ enum Piece<'p> {
 
 /// Writes the pieces in order, up to the first that can't be written completely.
 fn write_pieces<E: CountedWrite>(errors: &mut E, pieces: &[Piece<'_>])
-    ensures { ReportsText (flat_map reported pieces.now)
-        (writer E.contents E.counts errors.old) (writer E.contents E.counts errors.new) }
+    ensures { ReportsText (flat_map reported pieces.now) (E.writer errors.old) (E.writer errors.new) }
 {
     for piece in pieces {
         match write_piece(errors, piece) {
@@ -315,8 +320,7 @@ fn write_pieces<E: CountedWrite>(errors: &mut E, pieces: &[Piece<'_>])
 }
 
 fn write_piece<E: CountedWrite>(errors: &mut E, piece: &Piece<'_>) -> Result<(), WriteFault>
-    ensures { WritesText (reported piece.now) result
-        (writer E.contents E.counts errors.old) (writer E.contents E.counts errors.new) }
+    ensures { WritesText (reported piece.now) result (E.writer errors.old) (E.writer errors.new) }
 {
     match piece {
         Text(text) => write_text(errors, text.as_bytes()),
@@ -326,22 +330,21 @@ fn write_piece<E: CountedWrite>(errors: &mut E, piece: &Piece<'_>) -> Result<(),
 
 /// Reports a line.
 fn report_line<E: CountedWrite>(errors: &mut E, line: &str)
-    ensures { ReportsLine line.now (writer E.contents E.counts errors.old) (writer E.contents E.counts errors.new) }
+    ensures { ReportsLine line.now (E.writer errors.old) (E.writer errors.new) }
 {
     write_pieces(errors, &[Text(line), Text("\n")]);
 }
 
 /// Reports why a file of addresses is refused.
 fn report_noted<'p, E: CountedWrite>(errors: &mut E, refusal: &'p str, note: &'p str)
-    ensures { ReportsText (refusal.now ++ 10 ∷ note.now ++ 10 ∷ [])
-        (writer E.contents E.counts errors.old) (writer E.contents E.counts errors.new) }
+    ensures { ReportsText (refusal.now ++ 10 ∷ note.now ++ 10 ∷ []) (E.writer errors.old) (E.writer errors.new) }
 {
     write_pieces(errors, &[Text(refusal), Text("\n"), Text(note), Text("\n")]);
 }
 
 /// Reports why a filter has no program.
 fn report_filter<E: CountedWrite>(errors: &mut E, failure: &FilterFailure)
-    ensures { ReportsText (failure_text failure.now) (writer E.contents E.counts errors.old) (writer E.contents E.counts errors.new) }
+    ensures { ReportsText (failure_text failure.now) (E.writer errors.old) (E.writer errors.new) }
 {
     let line = failure.line();
     write_texts(errors, &failure.pieces(line.as_bytes()));
@@ -349,8 +352,7 @@ fn report_filter<E: CountedWrite>(errors: &mut E, failure: &FilterFailure)
 
 /// Writes the texts in order, up to the first that can't be written completely.
 fn write_texts<E: CountedWrite>(errors: &mut E, texts: &[&[u8]])
-    ensures { ReportsText (flat_map (λ text. text.now) texts.now)
-        (writer E.contents E.counts errors.old) (writer E.contents E.counts errors.new) }
+    ensures { ReportsText (flat_map (λ text. text.now) texts.now) (E.writer errors.old) (E.writer errors.new) }
 {
     for text in texts {
         match write_text(errors, text) {
@@ -362,8 +364,7 @@ fn write_texts<E: CountedWrite>(errors: &mut E, texts: &[&[u8]])
 
 /// Reports why a county is refused.
 fn report_county<'p, E: CountedWrite>(errors: &mut E, refusal: &'p str, code: &'p str)
-    ensures { ReportsText (refusal.now ++ 10 ∷ codes "county " ++ escaped code.now ++ 10 ∷ [])
-        (writer E.contents E.counts errors.old) (writer E.contents E.counts errors.new) }
+    ensures { ReportsText (refusal.now ++ 10 ∷ codes "county " ++ escaped code.now ++ 10 ∷ []) (E.writer errors.old) (E.writer errors.new) }
 {
     write_pieces(
         errors,
@@ -373,7 +374,7 @@ fn report_county<'p, E: CountedWrite>(errors: &mut E, refusal: &'p str, code: &'
 
 /// Reports why the file of this name can't be used.
 fn report_file<'p, E: CountedWrite>(errors: &mut E, name: &'p str, reason: &'p str)
-    ensures { ReportsText (file_line name.now reason.now) (writer E.contents E.counts errors.old) (writer E.contents E.counts errors.new) }
+    ensures { ReportsText (file_line name.now reason.now) (E.writer errors.old) (E.writer errors.new) }
 {
     write_pieces(
         errors,
@@ -395,8 +396,7 @@ fn report_county_file<'p, E: CountedWrite>(
     end: &'p str,
     reason: &'p str,
 )
-    ensures { ReportsText (file_line («data».now ++ codes "/TGR" ++ code.now ++ end.now) reason.now)
-        (writer E.contents E.counts errors.old) (writer E.contents E.counts errors.new) }
+    ensures { ReportsText (file_line («data».now ++ codes "/TGR" ++ code.now ++ end.now) reason.now) (E.writer errors.old) (E.writer errors.new) }
 {
     write_pieces(
         errors,

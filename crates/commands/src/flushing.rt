@@ -13,8 +13,8 @@ pub trait FlushedWrite: CountedWrite {
 
     /// Flushes once.
     fn flush_last(&mut self) -> io::Result<()>
-        ensures bytes { Keeps (Self.contents self.old) (Self.contents self.new) }
-        ensures counts { CountsFlush result (Self.counts self.old) (Self.counts self.new) }
+        ensures bytes { Keeps (Self.writer self.old).held (Self.writer self.new).held }
+        ensures counts { CountsFlush result (Self.writer self.old).counts (Self.writer self.new).counts }
         ensures flushed { OnOk result (is_flushed self.new) };
 }
 

@@ -1,24 +1,19 @@
 //! `geocode-batch`: geocodes the addresses in a file over counties.
-ghost use Rattle.std.specs.Prelude.{◌≡◌, ◌≢◌, ℕ, List, Option, option_map, IfErr, IfOk, OnOk};
+ghost use Rattle.std.specs.Prelude.{◌≡◌, ◌≢◌, List, IfErr, IfOk, OnOk};
 ghost use Rattle.addresses.specs.Address.{AddressParts, address_in, parts_of};
-ghost use Rattle.counted_io.specs.ReaderWriter.{writer};
 ghost use Rattle.commands.specs.Command.{CarriesOut};
-ghost use Rattle.commands.specs.CountyShapes.{AreShapesIfAny};
 ghost use Rattle.commands.specs.Failure.{status};
-ghost use Rattle.named_files.specs.Files.{disk};
 ghost use Rattle.commands.specs.GeocodeBatch.{AreAddressesOf, AreLinesIn, IsAddressesFault, WritesBatch, WritesUnlessMemory};
 ghost use Rattle.commands.specs.declared.request.Request.{Request};
 
 use crate::counties::load_counties;
-use crate::county_shapes::load_shapes_if;
 use crate::failure::{Failure, write};
+use address_batch::{Batch, Lines, header};
 use addresses::{Address, AddressFault, AddressRow, Addresses};
-use batch::{Batch, Lines, header};
 use counted_io::CountedWrite;
 use named_files::{Files, read_file};
 use refusals::{Fault, Refusal};
 use std::alloc::{AllocError, Allocator, Global};
-use tl_segments::Shapes;
 
 /// The arguments of `geocode-batch`.
 #[derive(Drop)]
@@ -36,8 +31,8 @@ pub struct GeocodeBatch<'a> {
 }
 
 impl<'a> GeocodeBatch<'a> {
-    /// Reads the file of addresses and the counties, and then writes the header and each address's lines. If places are along shapes, reads the files of
-    /// type 2 too, after all other files of the counties and in their order. Each of them must exist.
+    /// Reads the file of addresses and the counties, and then writes the header and each address's lines. If places are along shapes, each county's file
+    /// of type 2 must exist.
     ///
     /// A file of addresses that has a fault is refused before anything is written.
     pub fn carry_out<A: Allocator + Copy, F: Files, W: CountedWrite>(
@@ -46,44 +41,37 @@ impl<'a> GeocodeBatch<'a> {
         files: &mut F,
         out: &mut W,
     ) -> Result<(), Failure<'a>>
-        ensures carried { CarriesOut F.opens (Request.GeocodeBatch self.entry) result
-            (disk F.bytes F.failed_opens F.failed_reads files.old) (disk F.bytes F.failed_opens F.failed_reads files.new)
-            (writer W.contents W.counts out.old) (writer W.contents W.counts out.new) }
+        ensures carried { CarriesOut F.opens (Request.GeocodeBatch self.entry) result (F.disk files.old) (F.disk files.new)
+            (W.writer out.old) (W.writer out.new) }
         ensures usage { IfErr result (λ failure. status failure ≢ 2) }
     {
         let file = match read_file(alloc, files, self.addresses) {
             Ok(file) => file,
             Err(fault) => return Err(Failure::of_file(self.addresses, fault)),
         };
-        let counties = match load_counties(alloc, files, self.data, self.codes.as_slice()) {
+        let codes = self.codes.as_slice();
+        let counties = match load_counties(alloc, files, self.data, codes, self.shape) {
             Ok(counties) => counties,
             Err(failure) => return Err(failure),
         };
-        let shapes = match load_shapes_if(
-            self.shape,
-            alloc,
-            files,
-            self.data,
-            self.codes.as_slice(),
-        ) {
-            Ok(shapes) => shapes,
-            Err(failure) => return Err(failure),
-        };
+        // After the counties, as I/O comes before verdicts, and before anything is written.
         match check_addresses(self.tables, file.as_slice()) {
             Ok(()) => {}
             Err(fault) => return Err(Failure::of_addresses(fault)),
         }
-        let batch = Batch::of(alloc, counties.as_slice(), self.codes.as_slice())?;
-        let lookup = Lookup { batch, shapes };
+        let lookup = Lookup {
+            batch: Batch::of(alloc, counties.as_slice(), codes)?,
+            shape: self.shape,
+        };
         write_batch(alloc, self.tables, file.as_slice(), &lookup, out)
     }
 }
 
-/// Counties to look for addresses in, and the shapes of their segments if places are along them.
+/// Counties to look for addresses in, and whether places are along the shapes of their segments.
 #[derive(Drop)]
 struct Lookup<'a, A: Allocator> {
     batch: Batch<'a, A>,
-    shapes: Option<Vec<Shapes<A>, A>>,
+    shape: bool,
 }
 
 impl<A: Allocator + Copy> Lookup<'_, A> {
@@ -95,15 +83,12 @@ impl<A: Allocator + Copy> Lookup<'_, A> {
         address: &Address<'_>,
         lines: &mut Lines,
     ) -> Result<(), AllocError>
-        ensures { (rt2 : Option (List (List (List ℕ)))) → AreShapesIfAny (option_map (λ shapes. shapes.items) self.now.shapes) rt2
-            → OnOk result (AreLinesIn rt2 self.now.batch.codes self.now.batch.counties (parts_of address.now) lines.new) }
+        ensures { OnOk result (AreLinesIn self.now.shape self.now.batch.codes self.now.batch.counties (parts_of address.now) lines.new) }
     {
-        match &self.shapes {
-            Some(shapes) => {
-                self.batch
-                    .write_shaped_lines(alloc, tables, address, shapes.as_slice(), lines)
-            }
-            None => self.batch.write_lines(alloc, tables, address, lines),
+        if self.shape {
+            self.batch.write_shaped_lines(alloc, tables, address, lines)
+        } else {
+            self.batch.write_lines(alloc, tables, address, lines)
         }
     }
 }
@@ -127,10 +112,9 @@ fn write_batch<'a, A: Allocator + Copy, W: CountedWrite>(
     lookup: &Lookup<'_, A>,
     out: &mut W,
 ) -> Result<(), Failure<'a>>
-    ensures { (rt2 : Option (List (List (List ℕ)))) → AreShapesIfAny (option_map (λ shapes. shapes.items) lookup.now.shapes) rt2
-        → (addresses : List AddressParts) → AreAddressesOf file.now addresses
-        → WritesBatch (AreLinesIn rt2 lookup.now.batch.codes lookup.now.batch.counties) addresses result
-        (writer W.contents W.counts out.old) (writer W.contents W.counts out.new) }
+    ensures { (addresses : List AddressParts) → AreAddressesOf file.now addresses
+        → WritesBatch (AreLinesIn lookup.now.shape lookup.now.batch.codes lookup.now.batch.counties) addresses result
+        (W.writer out.old) (W.writer out.new) }
 {
     match write(out, header().as_bytes()) {
         Ok(()) => {}
@@ -165,9 +149,8 @@ fn write_row<'a, A: Allocator + Copy, W: CountedWrite>(
     lines: &mut Lines,
     out: &mut W,
 ) -> Result<(), Failure<'a>>
-    ensures { (rt2 : Option (List (List (List ℕ)))) → AreShapesIfAny (option_map (λ shapes. shapes.items) lookup.now.shapes) rt2
-        → WritesUnlessMemory (AreLinesIn rt2 lookup.now.batch.codes lookup.now.batch.counties (address_in row.now))
-        (λ before after. after ≡ before) result (writer W.contents W.counts out.old) (writer W.contents W.counts out.new) }
+    ensures { WritesUnlessMemory (AreLinesIn lookup.now.shape lookup.now.batch.codes lookup.now.batch.counties (address_in row.now))
+        (λ before after. after ≡ before) result (W.writer out.old) (W.writer out.new) }
 {
     let address = row.address();
     match lookup.write_lines(alloc, tables, &address, lines) {

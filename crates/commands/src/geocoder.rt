@@ -1,8 +1,6 @@
 //! `geocode`: finds where a house number is, over counties.
 ghost use Rattle.std.specs.Prelude.{◌≢◌, IfErr};
-ghost use Rattle.counted_io.specs.ReaderWriter.{writer};
 ghost use Rattle.commands.specs.Command.{CarriesOut};
-ghost use Rattle.named_files.specs.Files.{disk};
 ghost use Rattle.commands.specs.declared.request.Request.{Request};
 ghost use Rattle.commands.specs.Failure.{WritesAs, status};
 ghost use Rattle.geocode.specs.HitLine.{hit_lines};
@@ -32,12 +30,11 @@ impl<'a> Geocode<'a> {
         files: &mut F,
         out: &mut W,
     ) -> Result<(), Failure<'a>>
-        ensures carried { CarriesOut F.opens (Request.Geocode self.entry) result
-            (disk F.bytes F.failed_opens F.failed_reads files.old) (disk F.bytes F.failed_opens F.failed_reads files.new)
-            (writer W.contents W.counts out.old) (writer W.contents W.counts out.new) }
+        ensures carried { CarriesOut F.opens (Request.Geocode self.entry) result (F.disk files.old) (F.disk files.new)
+            (W.writer out.old) (W.writer out.new) }
         ensures usage { IfErr result (λ failure. status failure ≢ 2) }
     {
-        let counties = match load_counties(alloc, files, self.data, self.codes.as_slice()) {
+        let counties = match load_counties(alloc, files, self.data, self.codes.as_slice(), false) {
             Ok(counties) => counties,
             Err(failure) => return Err(failure),
         };
@@ -48,7 +45,7 @@ impl<'a> Geocode<'a> {
 
 /// Writes the hits' lines in order, up to the first that can't be written completely.
 fn write_lines<'a, W: CountedWrite>(out: &mut W, hits: &[Hit]) -> Result<(), Failure<'a>>
-    ensures { WritesAs (hit_lines hits.now) result (writer W.contents W.counts out.old) (writer W.contents W.counts out.new) }
+    ensures { WritesAs (hit_lines hits.now) result (W.writer out.old) (W.writer out.new) }
 {
     for hit in hits {
         let line = hit.line();

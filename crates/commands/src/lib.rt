@@ -4,7 +4,6 @@
 mod assemble;
 mod compile;
 mod counties;
-mod county_shapes;
 mod diagnostic_line;
 mod disassemble;
 mod escape;
@@ -14,7 +13,6 @@ mod flushing;
 mod geocode_batch;
 mod geocoder;
 mod inputs;
-mod layer_inputs;
 mod request;
 mod run;
 mod select;

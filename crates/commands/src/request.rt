@@ -1,9 +1,10 @@
 //! A request, its execution, and its exit status.
+//!
+//! Flushes are counted, so a status of 0 means that one succeeded after everything was written.
 ghost use Rattle.std.specs.Prelude.{◌≡◌, ◌≢◌, ◌≤◌, ◌⊎◌};
-ghost use Rattle.counted_io.specs.ReaderWriter.{writer};
 ghost use Rattle.commands.specs.Command.{CarriesOut, Ends, FailsFlush, IsDone, IsFlushed, ReportsMissingLine, IsOutOfMemory, IsRefusal, IsUnusable};
 ghost use Rattle.commands.specs.Failure.{IsUnchangedOnUsage, status};
-ghost use Rattle.named_files.specs.Files.{KeepsCounts, disk};
+ghost use Rattle.named_files.specs.Files.{KeepsCounts};
 
 use crate::assemble::Assemble;
 use crate::compile::Compile;
@@ -50,27 +51,21 @@ impl<'a> Request<'a> {
         errors: &mut E,
     ) -> u8
         ensures at_most { result ≤ 4 }
-        ensures done { result ≡ 0 → IsDone self.entry (F.bytes files.old)
-            (writer W.contents W.counts out.old) (writer W.contents W.counts out.new) }
-        ensures refused { result ≡ 1 → IsRefusal self.entry (F.bytes files.old)
-            (writer W.contents W.counts out.old) (writer W.contents W.counts out.new)
-            (writer E.contents E.counts errors.old) (writer E.contents E.counts errors.new) }
-        ensures usage { result ≡ 2 → ReportsMissingLine self.entry (F.bytes files.old)
-            (writer E.contents E.counts errors.old) (writer E.contents E.counts errors.new) }
+        ensures done { result ≡ 0 → IsDone self.entry (F.disk files.old).known (W.writer out.old) (W.writer out.new) }
+        ensures refused { result ≡ 1 → IsRefusal self.entry (F.disk files.old).known (W.writer out.old) (W.writer out.new)
+            (E.writer errors.old) (E.writer errors.new) }
+        ensures usage { result ≡ 2 → ReportsMissingLine self.entry (F.disk files.old).known (E.writer errors.old) (E.writer errors.new) }
         ensures untouched { result ≡ 2 → out.new ≡ out.old }
-        ensures unusable { result ≡ 3 → IsUnusable F.opens self.entry
-            (disk F.bytes F.failed_opens F.failed_reads files.old) (disk F.bytes F.failed_opens F.failed_reads files.new)
-            (writer W.contents W.counts out.old) (writer W.contents W.counts out.new)
-            (writer E.contents E.counts errors.old) (writer E.contents E.counts errors.new) }
-        ensures memory { result ≡ 4 → IsOutOfMemory self.entry (F.bytes files.old)
-            (writer W.contents W.counts out.old) (writer W.contents W.counts out.new)
-            (writer E.contents E.counts errors.old) (writer E.contents E.counts errors.new) }
-        ensures flushed { result ≢ 2 → (W.counts out.new).flushes ≢ (W.counts out.old).flushes }
+        ensures unusable { result ≡ 3 → IsUnusable F.opens self.entry (F.disk files.old) (F.disk files.new) (W.writer out.old) (W.writer out.new)
+            (E.writer errors.old) (E.writer errors.new) }
+        ensures memory { result ≡ 4 → IsOutOfMemory self.entry (F.disk files.old).known (W.writer out.old) (W.writer out.new)
+            (E.writer errors.old) (E.writer errors.new) }
+        ensures flushed { result ≢ 2 → (W.writer out.new).counts.flushes ≢ (W.writer out.old).counts.flushes }
         // Nothing was written after the flush.
         ensures flushed_last { result ≢ 2 → result ≢ 3 → W.is_flushed out.new }
         // No failed open or read is ignored.
-        ensures opens { result ≢ 3 → F.failed_opens files.new ≡ F.failed_opens files.old }
-        ensures reads { result ≢ 3 → KeepsCounts (F.failed_reads files.old) (F.failed_reads files.new) }
+        ensures opens { result ≢ 3 → (F.disk files.new).failed_opens ≡ (F.disk files.old).failed_opens }
+        ensures reads { result ≢ 3 → KeepsCounts (F.disk files.old).failed_reads (F.disk files.new).failed_reads }
     {
         match self.carry_out(alloc, files, out) {
             Ok(()) => flush(out, errors),
@@ -90,9 +85,7 @@ impl<'a> Request<'a> {
         files: &mut F,
         out: &mut W,
     ) -> Result<(), Failure<'a>>
-        ensures carried { CarriesOut F.opens self.entry result
-            (disk F.bytes F.failed_opens F.failed_reads files.old) (disk F.bytes F.failed_opens F.failed_reads files.new)
-            (writer W.contents W.counts out.old) (writer W.contents W.counts out.new) }
+        ensures carried { CarriesOut F.opens self.entry result (F.disk files.old) (F.disk files.new) (W.writer out.old) (W.writer out.new) }
         ensures usage { IsUnchangedOnUsage result out.old out.new }
     {
         match self {
@@ -113,10 +106,9 @@ impl<'a> Request<'a> {
 /// Flushes the output of a completed command and returns its exit status.
 fn flush<W: FlushedWrite, E: CountedWrite>(out: &mut W, errors: &mut E) -> u8
     ensures status { (result ≡ 0) ⊎ (result ≡ 3) }
-    ensures done { result ≡ 0 → IsFlushed (writer W.contents W.counts out.old) (writer W.contents W.counts out.new) }
-    ensures failed { result ≡ 3 → FailsFlush (writer W.contents W.counts out.old) (writer W.contents W.counts out.new)
-        (writer E.contents E.counts errors.old) (writer E.contents E.counts errors.new) }
-    ensures flushed { (W.counts out.new).flushes ≢ (W.counts out.old).flushes }
+    ensures done { result ≡ 0 → IsFlushed (W.writer out.old) (W.writer out.new) }
+    ensures failed { result ≡ 3 → FailsFlush (W.writer out.old) (W.writer out.new) (E.writer errors.old) (E.writer errors.new) }
+    ensures flushed { (W.writer out.new).counts.flushes ≢ (W.writer out.old).counts.flushes }
     ensures flushed_last { result ≡ 0 → W.is_flushed out.new }
 {
     match out.flush_last() {
@@ -137,9 +129,8 @@ fn end_failed<W: FlushedWrite, E: CountedWrite>(
     errors: &mut E,
 ) -> u8
     requires { status failure.now ≢ 2 }
-    ensures ends { Ends failure.now result (writer W.contents W.counts out.old) (writer W.contents W.counts out.new)
-        (writer E.contents E.counts errors.old) (writer E.contents E.counts errors.new) }
-    ensures flushed { (W.counts out.new).flushes ≢ (W.counts out.old).flushes }
+    ensures ends { Ends failure.now result (W.writer out.old) (W.writer out.new) (E.writer errors.old) (E.writer errors.new) }
+    ensures flushed { (W.writer out.new).counts.flushes ≢ (W.writer out.old).counts.flushes }
     ensures flushed_last { result ≢ 3 → W.is_flushed out.new }
 {
     let flushed = out.flush_last();

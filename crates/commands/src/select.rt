@@ -1,23 +1,20 @@
 //! `select`: writes the segments for which a filter is true, over counties.
 ghost use Rattle.std.specs.Prelude.{◌≡◌, ◌≢◌, ℕ, List, map, IfErr};
-ghost use Rattle.counted_io.specs.ReaderWriter.{writer};
 ghost use Rattle.commands.specs.Command.{CarriesOut};
 ghost use Rattle.commands.specs.Counties.{IsFileOfOne};
-ghost use Rattle.commands.specs.LayerInputs.{IsFileOfLayer};
+ghost use Rattle.named_files.specs.County.{IsFileOfCounty};
 ghost use Rattle.commands.specs.Failure.{NamesFile, IsUnfailedUnlessUnusable, status};
-ghost use Rattle.named_files.specs.Files.{disk};
 ghost use Rattle.commands.specs.Select.{FailsAs, SelectsCounties, SelectsCounty, SelectsLayer, selection};
 ghost use Rattle.commands.specs.declared.request.Request.{Request};
 ghost use Rattle.layers.specs.Layer.{has_shapes};
 ghost use Rattle.layers.specs.LayerParts.{parts_of};
 
 use crate::failure::Failure;
-use crate::layer_inputs::{close_layer, open_layer};
 use bpf_verify::Verified;
 use counted_io::CountedWrite;
 use filters::FilterOptions;
 use layers::{Layer, write_county};
-use named_files::Files;
+use named_files::{Files, close_county, open_county};
 use std::alloc::{Allocator, Global};
 
 /// The arguments of `select`.
@@ -42,11 +39,11 @@ impl<'a> Select<'a> {
         files: &mut F,
         out: &mut W,
     ) -> Result<(), Failure<'a>>
-        ensures carried { CarriesOut F.opens (Request.Select self.entry) result
-            (disk F.bytes F.failed_opens F.failed_reads files.old) (disk F.bytes F.failed_opens F.failed_reads files.new)
-            (writer W.contents W.counts out.old) (writer W.contents W.counts out.new) }
+        ensures carried { CarriesOut F.opens (Request.Select self.entry) result (F.disk files.old) (F.disk files.new)
+            (W.writer out.old) (W.writer out.new) }
         ensures usage { IfErr result (λ failure. status failure ≢ 2) }
     {
+        // Once for all counties, as verifying a filter with 1,500 names takes its time.
         let program = match self.filter_options.verified(self.filter.as_bytes()) {
             Ok(program) => program,
             Err(failure) => return Err(Failure::Filter(failure)),
@@ -73,15 +70,13 @@ fn select_layer<'a, A: Allocator + Copy, F: Files, W: CountedWrite>(
     layer: &Layer,
     out: &mut W,
 ) -> Result<(), Failure<'a>>
-    ensures outcome { SelectsLayer (selection (F.bytes files.old) folder.now (parts_of layer.now) program.now.code)
-        (map (λ code. code.now) codes.now) result (writer W.contents W.counts out.old) (writer W.contents W.counts out.new) }
-    ensures fails { IfErr result (λ failure. FailsAs F.opens folder.now failure
-        (disk F.bytes F.failed_opens F.failed_reads files.old) (disk F.bytes F.failed_opens F.failed_reads files.new)) }
-    ensures names { IfErr result (NamesFile (IsFileOfOne (IsFileOfLayer (has_shapes (parts_of layer.now)) folder.now)
+    ensures outcome { SelectsLayer (selection (F.disk files.old).known folder.now (parts_of layer.now) program.now.code)
+        (map (λ code. code.now) codes.now) result (W.writer out.old) (W.writer out.new) }
+    ensures fails { IfErr result (λ failure. FailsAs F.opens folder.now failure (F.disk files.old) (F.disk files.new)) }
+    ensures names { IfErr result (NamesFile (IsFileOfOne (IsFileOfCounty (has_shapes (parts_of layer.now)) folder.now)
         (map (λ code. code.now) codes.now))) }
-    ensures counts { IsUnfailedUnlessUnusable result (disk F.bytes F.failed_opens F.failed_reads files.old)
-        (disk F.bytes F.failed_opens F.failed_reads files.new) }
-    ensures unflushed { (W.counts out.new).flushes ≡ (W.counts out.old).flushes }
+    ensures counts { IsUnfailedUnlessUnusable result (F.disk files.old) (F.disk files.new) }
+    ensures unflushed { (W.writer out.new).counts.flushes ≡ (W.writer out.old).counts.flushes }
 {
     match layer.write_header(out) {
         Ok(()) => select_counties(alloc, files, program, folder, codes, layer, out),
@@ -99,15 +94,13 @@ fn select_counties<'a, A: Allocator + Copy, F: Files, W: CountedWrite>(
     layer: &Layer,
     out: &mut W,
 ) -> Result<(), Failure<'a>>
-    ensures outcome { SelectsCounties (selection (F.bytes files.old) folder.now (parts_of layer.now) program.now.code)
-        (map (λ code. code.now) codes.now) result (writer W.contents W.counts out.old) (writer W.contents W.counts out.new) }
-    ensures fails { IfErr result (λ failure. FailsAs F.opens folder.now failure
-        (disk F.bytes F.failed_opens F.failed_reads files.old) (disk F.bytes F.failed_opens F.failed_reads files.new)) }
-    ensures names { IfErr result (NamesFile (IsFileOfOne (IsFileOfLayer (has_shapes (parts_of layer.now)) folder.now)
+    ensures outcome { SelectsCounties (selection (F.disk files.old).known folder.now (parts_of layer.now) program.now.code)
+        (map (λ code. code.now) codes.now) result (W.writer out.old) (W.writer out.new) }
+    ensures fails { IfErr result (λ failure. FailsAs F.opens folder.now failure (F.disk files.old) (F.disk files.new)) }
+    ensures names { IfErr result (NamesFile (IsFileOfOne (IsFileOfCounty (has_shapes (parts_of layer.now)) folder.now)
         (map (λ code. code.now) codes.now))) }
-    ensures counts { IsUnfailedUnlessUnusable result (disk F.bytes F.failed_opens F.failed_reads files.old)
-        (disk F.bytes F.failed_opens F.failed_reads files.new) }
-    ensures unflushed { (W.counts out.new).flushes ≡ (W.counts out.old).flushes }
+    ensures counts { IsUnfailedUnlessUnusable result (F.disk files.old) (F.disk files.new) }
+    ensures unflushed { (W.writer out.new).counts.flushes ≡ (W.writer out.old).counts.flushes }
 {
     for code in codes {
         match select_county(alloc, files, program, folder, code, layer, out) {
@@ -128,22 +121,20 @@ fn select_county<'a, A: Allocator + Copy, F: Files, W: CountedWrite>(
     layer: &Layer,
     out: &mut W,
 ) -> Result<(), Failure<'a>>
-    ensures outcome { SelectsCounty (selection (F.bytes files.old) folder.now (parts_of layer.now) program.now.code) code.now result
-        (writer W.contents W.counts out.old) (writer W.contents W.counts out.new) }
-    ensures fails { IfErr result (λ failure. FailsAs F.opens folder.now failure
-        (disk F.bytes F.failed_opens F.failed_reads files.old) (disk F.bytes F.failed_opens F.failed_reads files.new)) }
-    ensures names { IfErr result (NamesFile (IsFileOfLayer (has_shapes (parts_of layer.now)) folder.now code.now)) }
-    ensures stay { (other : List ℕ) → F.bytes files.new other ≡ F.bytes files.old other }
-    ensures counts { IsUnfailedUnlessUnusable result (disk F.bytes F.failed_opens F.failed_reads files.old)
-        (disk F.bytes F.failed_opens F.failed_reads files.new) }
-    ensures unflushed { (W.counts out.new).flushes ≡ (W.counts out.old).flushes }
+    ensures outcome { SelectsCounty (selection (F.disk files.old).known folder.now (parts_of layer.now) program.now.code) code.now result
+        (W.writer out.old) (W.writer out.new) }
+    ensures fails { IfErr result (λ failure. FailsAs F.opens folder.now failure (F.disk files.old) (F.disk files.new)) }
+    ensures names { IfErr result (NamesFile (IsFileOfCounty (has_shapes (parts_of layer.now)) folder.now code.now)) }
+    ensures stay { (other : List ℕ) → (F.disk files.new).known other ≡ (F.disk files.old).known other }
+    ensures counts { IsUnfailedUnlessUnusable result (F.disk files.old) (F.disk files.new) }
+    ensures unflushed { (W.writer out.new).counts.flushes ≡ (W.writer out.old).counts.flushes }
 {
-    let mut inputs = match open_layer(alloc, files, folder, code, layer) {
+    let mut inputs = match open_county(alloc, files, folder, code, layer.has_shapes()) {
         Ok(inputs) => inputs,
         Err(fault) => return Err(Failure::of_opening(folder, code, fault)),
     };
     let written = write_county(alloc, program, &mut inputs, layer, out);
-    close_layer(files, folder, code, inputs);
+    close_county(files, folder, code, inputs);
     match written {
         Ok(_) => Ok(()),
         Err(fault) => Err(Failure::of_county_extract(code, fault)),

@@ -1,11 +1,9 @@
 //! `trace`: runs a program on one segment of a county.
-ghost use Rattle.counted_io.specs.ReaderWriter.{writer};
 ghost use Rattle.commands.specs.Command.{CarriesOut};
 ghost use Rattle.commands.specs.Failure.{IsUnchangedOnUsage};
-ghost use Rattle.named_files.specs.Files.{disk};
 ghost use Rattle.commands.specs.declared.request.Request.{Request};
 ghost use Rattle.std.specs.Prelude.{◌≡◌, ◌≤◌, ◌+◌, ◌∷◌, ◌++◌, [], decimal, length, MatchOption};
-ghost use Rattle.named_files.specs.County.{county_readers};
+ghost use Rattle.tl_segments.specs.County.{county_readers};
 ghost use Rattle.commands.specs.Trace.{IsTraceResult, HasNoLine, IsSegmentOfLine, outcome_line};
 
 use crate::failure::{Failure, write};
@@ -15,10 +13,10 @@ use bpf_insn::decode;
 use bpf_meaning::{Outcome, trace};
 use counted_io::{CountedRead, CountedWrite};
 use itoa::Buffer;
-use named_files::{CountyInputs, Files, close_county};
+use named_files::{Files, close_county};
 use refusals::Fault;
 use std::alloc::Allocator;
-use tl_segments::{County, Segment};
+use tl_segments::{County, CountyFiles, Segment};
 
 /// The arguments of `trace`.
 #[derive(Clone, Copy)]
@@ -43,12 +41,11 @@ impl<'a> Trace<'a> {
         files: &mut F,
         out: &mut W,
     ) -> Result<(), Failure<'a>>
-        ensures carried { CarriesOut F.opens (Request.Trace self.entry) result
-            (disk F.bytes F.failed_opens F.failed_reads files.old) (disk F.bytes F.failed_opens F.failed_reads files.new)
-            (writer W.contents W.counts out.old) (writer W.contents W.counts out.new) }
+        ensures carried { CarriesOut F.opens (Request.Trace self.entry) result (F.disk files.old) (F.disk files.new)
+            (W.writer out.old) (W.writer out.new) }
         ensures usage { IsUnchangedOnUsage result out.old out.new }
     {
-        let inputs = match open_inputs(alloc, files, self.program, self.data, self.code) {
+        let inputs = match open_inputs(alloc, files, self.program, self.data, self.code, false) {
             Ok(inputs) => inputs,
             Err(failure) => return Err(failure),
         };
@@ -69,15 +66,17 @@ impl<'a> Trace<'a> {
         self,
         alloc: A,
         program: &[u8],
-        inputs: &mut CountyInputs<R>,
+        inputs: &mut CountyFiles<R>,
     ) -> Result<Outcome, Failure<'a>>
-        ensures ends { IsTraceResult self.entry program.now (county_readers R.remaining R.failed_reads inputs.old)
-            (county_readers R.remaining R.failed_reads inputs.new) result }
+        ensures ends { IsTraceResult self.entry program.now (county_readers R.reader inputs.old)
+            (county_readers R.reader inputs.new) result }
     {
+        // Decoded but not verified, to show what a refused program does.
         let code = match decode(alloc, program) {
             Ok(code) => code,
             Err(fault) => return Err(Failure::Refusal(fault.refusal())),
         };
+        // The whole county, whichever the line, so that `trace` refuses the files of types 1, 4, 5 and 6 that `run` refuses.
         let county = match inputs.load(alloc) {
             Ok(county) => county,
             Err(fault) => return Err(Failure::Refusal(fault.refusal())),

@@ -1,8 +1,6 @@
 //! `verify`: checks whether a program is accepted.
-ghost use Rattle.counted_io.specs.ReaderWriter.{writer};
 ghost use Rattle.commands.specs.Command.{CarriesOut};
 ghost use Rattle.commands.specs.Failure.{status};
-ghost use Rattle.named_files.specs.Files.{disk};
 ghost use Rattle.commands.specs.declared.request.Request.{Request};
 ghost use Rattle.bpf_insn.specs.declared.instruction.Insn.{Insn};
 ghost use Rattle.bpf_program.specs.Program.{IsSafeProgram, IsProgramFault};
@@ -31,9 +29,8 @@ impl<'a> Verify<'a> {
         files: &mut F,
         out: &mut W,
     ) -> Result<(), Failure<'a>>
-        ensures carried { CarriesOut F.opens (Request.Verify self.entry) result
-            (disk F.bytes F.failed_opens F.failed_reads files.old) (disk F.bytes F.failed_opens F.failed_reads files.new)
-            (writer W.contents W.counts out.old) (writer W.contents W.counts out.new) }
+        ensures carried { CarriesOut F.opens (Request.Verify self.entry) result (F.disk files.old) (F.disk files.new)
+            (W.writer out.old) (W.writer out.new) }
         ensures usage { IfErr result (λ failure. status failure ≢ 2) }
     {
         let program = match read_program_file(alloc, files, self.program) {
@@ -53,6 +50,7 @@ fn check_owned<A: Allocator + Copy>(alloc: A, program: Vec<u8, A>) -> Result<(),
     ensures err { IfErr result (IsProgramFault program.items) }
 {
     let code = decode(alloc, program.as_slice())?;
+    // The bytes and the verifier's states aren't in memory at once.
     drop(program);
     check_code(alloc, code)
 }

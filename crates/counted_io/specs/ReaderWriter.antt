@@ -16,10 +16,3 @@ pub record Reader : Type 0 where
 pub record Writer : Type 0 where
   pub held : Option (List ℕ)
   pub counts : WriteCounts
-
--- the value of a reader, and the value of a writer, built from the members of their traits
-abbrev pub reader : {R : Type 0} → (R → Option (List ℕ)) → (R → ℕ) → R → Reader
-reader remaining failed_reads r = record { left = remaining r; failed = failed_reads r }
-
-abbrev pub writer : {W : Type 0} → (W → Option (List ℕ)) → (W → WriteCounts) → W → Writer
-writer contents counts w = record { held = contents w; counts = counts w }

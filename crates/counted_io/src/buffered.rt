@@ -1,5 +1,13 @@
 //! A counting reader over a buffered one.
-ghost use Rattle.std.specs.Prelude.{◌≡◌, ◌≤◌, ◌+◌, ◌++◌, ◌∷◌, [], None, IfSome, IsTrue, OnSome, length, take};
+//!
+//! Finding lines in the buffer takes a tenth of the time of reading single bytes. The usual line has a path of its own: one as long as the line
+//! before it, which is copied over that one and searched for a line feed in one go, 32 bytes at a time. Every other line takes the slower path.
+//! Lending the line instead of copying it would save 4 % of a small filter's instructions, and make a segment borrow from its reader.
+//!
+//! Always: reads of the source happen exactly where reads of single bytes would make them, so a failed read comes after the same lines, is counted
+//! once, and isn't repeated. The reader stops right after a line feed or at the 231st byte of a line, where its owner can go on. It promises no bytes
+//! of its own as a `Read`, because std's contract doesn't say what a buffer yields at the end of an input that isn't known.
+ghost use Rattle.std.specs.Prelude.{◌≡◌, ◌≤◌, ◌+◌, ◌++◌, ◌∷◌, [], None, IfSome, IsTrue, OnSome, length, refl, take};
 ghost use Rattle.std.specs.Io.{ReadsAtMost};
 ghost use Rattle.std.specs.Io.KnownBytes.{ReadConsumes};
 ghost use Rattle.memchr.specs.Find.{IsFirstByte, is_byte};
@@ -83,6 +91,7 @@ impl<B: BufRead> Buffered<B> {
             self.reader.consume(content.len() + 1);
             return Some(Stop::LineFeed);
         }
+        // One byte more than fits shows that the line is too long.
         let room = MAX_CONTENT_LENGTH - length_so_far;
         let shown = &buffer[..buffer.len().min(room + 1)];
         let Some(length) = first_line_feed(shown) else {
@@ -156,7 +165,9 @@ impl<B: BufRead> Read for Buffered<B> {
 }
 
 impl<B: BufRead> CountedRead for Buffered<B> {
-    ghost failed_reads = { λ r. r.failed_reads };
+    ghost reader = { λ r. record { left = None; failed = r.failed_reads } };
+
+    ghost same = { λ r. refl };
 
     #[inline]
     fn read_counted(&mut self, buf: &mut [u8]) -> io::Result<usize>
@@ -213,6 +224,7 @@ fn copy_if_same_length(
     ensures within { length_so_far ≤ length content.new.items }
 {
     let length = content.len();
+    // A vector needs 32 bytes, and a part of this line may be in the content already.
     if length_so_far != 0 || length < LANES || length >= buffer.len() {
         return false;
     }

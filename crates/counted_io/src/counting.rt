@@ -1,10 +1,19 @@
 //! Readers and writers that count failed calls.
-ghost use Rattle.std.specs.Prelude.{◌≡◌, ℕ};
+//!
+//! A contract can't say what a real file or socket holds, so "a failure is reported only if one happened" is said by counts: what a caller reports as
+//! a failed read is backed by a count that grew.
+//!
+//! Counts wrap at 2^64 and don't saturate, so each failure changes its count. `read_content` has no default body: a wrapper that forgot to pass it on
+//! would compile, and be slow.
+//!
+//! Always: one call here is one call of the inner reader or writer. Nothing is buffered and no failed call is repeated, not even an interrupted one;
+//! what to do about a failure is for the caller.
+ghost use Rattle.std.specs.Prelude.{◌≡◌, refl};
 ghost use Rattle.std.specs.Io.{ReadsAtMost, WritesAtMost};
 ghost use Rattle.std.specs.Io.KnownBytes.{Keeps, ReadConsumes, WriteAppends};
 ghost use Rattle.counted_io.specs.Content.{AddsStop, IsByteRead, IsContentRead};
 ghost use Rattle.counted_io.specs.Counting.{AddsFailure, AddsFlush, AddsWrite, CountsFailure, CountsFlush, CountsWrite, next_count};
-ghost use Rattle.counted_io.specs.ReaderWriter.{WriteCounts, reader};
+ghost use Rattle.counted_io.specs.ReaderWriter.{Reader, Writer};
 
 use crate::content::{LINE_FEED, MAX_CONTENT_LENGTH, Stop};
 use arrayvec::ArrayVec;
@@ -17,41 +26,46 @@ use std::marker::Model;
 /// The count lets a caller prove that it reports a failed read only if a read failed. This also works for a file or a socket, about whose bytes no
 /// contract says anything.
 pub trait CountedRead: Read {
-    // The number of failed reads, modulo 2^64.
-    ghost failed_reads: { Self → ℕ };
+    // The reader as contracts see it. Its count of failed reads is modulo 2^64.
+    ghost reader: { Self → Reader };
 
     /// Reads once. Treats the bytes as [`Read`]'s `read` does.
     fn read_counted(&mut self, buf: &mut [u8]) -> io::Result<usize>
         ensures bound { ReadsAtMost result buf.new }
-        ensures bytes { ReadConsumes (Self.remaining self.old) (Self.remaining self.new) result buf.new }
-        ensures failures { CountsFailure result (failed_reads self.old) (failed_reads self.new) };
+        ensures bytes { ReadConsumes (reader self.old).left (reader self.new).left result buf.new }
+        ensures failures { CountsFailure result (reader self.old).failed (reader self.new).failed };
 
     /// Reads a line's bytes up to its LF into `content`, replacing its previous contents, as if byte by byte. The LF is consumed but left out of the
     /// content. Nothing is read after a failure, and a line of more than 230 bytes is abandoned after its 231st.
     ///
     /// There is no default body: a wrapper forwards the call, so that a buffered reader can search its buffer.
     fn read_content(&mut self, content: &mut ArrayVec<u8, MAX_CONTENT_LENGTH>) -> Stop
-        ensures { IsContentRead content.new.items
-            (reader Self.remaining failed_reads self.old) (reader Self.remaining failed_reads self.new) result };
+        ensures { IsContentRead content.new.items (reader self.old) (reader self.new) result };
+
+    // These are the bytes that the contracts of `Read` speak of.
+    ghost same: { (of : Self) → (reader of).left ≡ Self.remaining of };
 }
 
 /// A writer that counts its failures, its flushes, and its nonempty writes that wrote 0 bytes.
 ///
 /// It is the counterpart of [`CountedRead`] for writing.
 pub trait CountedWrite: Write {
-    // The numbers of failed writes and flushes, of nonempty writes that wrote 0 bytes, and of flushes, each modulo 2^64.
-    ghost counts: { Self → WriteCounts };
+    // The writer as contracts see it. Each of its counts is modulo 2^64.
+    ghost writer: { Self → Writer };
 
     /// Writes once. Treats the bytes as [`Write`]'s `write` does.
     fn write_counted(&mut self, buf: &[u8]) -> io::Result<usize>
         ensures bound { WritesAtMost result buf.now }
-        ensures bytes { WriteAppends (Self.contents self.old) (Self.contents self.new) result buf.now }
-        ensures counts { CountsWrite result buf.now (counts self.old) (counts self.new) };
+        ensures bytes { WriteAppends (writer self.old).held (writer self.new).held result buf.now }
+        ensures counts { CountsWrite result buf.now (writer self.old).counts (writer self.new).counts };
 
     /// Flushes once. Treats the bytes as [`Write`]'s `flush` does.
     fn flush_counted(&mut self) -> io::Result<()>
-        ensures bytes { Keeps (Self.contents self.old) (Self.contents self.new) }
-        ensures counts { CountsFlush result (counts self.old) (counts self.new) };
+        ensures bytes { Keeps (writer self.old).held (writer self.new).held }
+        ensures counts { CountsFlush result (writer self.old).counts (writer self.new).counts };
+
+    // These are the bytes that the contracts of `Write` speak of.
+    ghost same: { (of : Self) → (writer of).held ≡ Self.contents of };
 }
 
 /// Any reader or writer, with its counts.
@@ -216,7 +230,9 @@ impl<T: Write> Write for Counting<T> {
 }
 
 impl<T: Read> CountedRead for Counting<T> {
-    ghost failed_reads = { λ c. c.failed_reads };
+    ghost reader = { λ c. record { left = T.remaining c.inner; failed = c.failed_reads } };
+
+    ghost same = { λ c. refl };
 
     #[inline]
     fn read_counted(&mut self, buf: &mut [u8]) -> io::Result<usize>
@@ -256,7 +272,9 @@ impl<T: Read> CountedRead for Counting<T> {
 }
 
 impl<T: Write> CountedWrite for Counting<T> {
-    ghost counts = { λ c. c.counts };
+    ghost writer = { λ c. record { held = T.contents c.inner; counts = c.counts } };
+
+    ghost same = { λ c. refl };
 
     #[inline]
     fn write_counted(&mut self, buf: &[u8]) -> io::Result<usize>

@@ -99,14 +99,14 @@ impl<T> Fuse<T> {
 impl<T: CountedRead> Read for Fuse<T> {
     ghost use Rattle.counted_io.specs.Fuse.{after_call, is_due};
 
-    ghost remaining = { λ fuse. T.remaining fuse.inner };
+    ghost remaining = { λ fuse. (T.reader fuse.inner).left };
 
     fn read(&mut self, buf: &mut [u8]) -> io::Result<usize>
         ensures bound { ReadsAtMost result buf.new }
-        ensures bytes { ReadConsumes (T.remaining self.old.inner) (T.remaining self.new.inner) result buf.new }
+        ensures bytes { ReadConsumes (T.reader self.old.inner).left (T.reader self.new.inner).left result buf.new }
         ensures due { is_due self.old 0 ≡ true → IsErr result × (self.new ≡ after_call self.old 0) }
         ensures passed { is_due self.old 0 ≡ false
-            → CountsFailure result (T.failed_reads self.old.inner) (T.failed_reads self.new.inner) }
+            → CountsFailure result (T.reader self.old.inner).failed (T.reader self.new.inner).failed }
         ensures counted { self.new ≡ record (after_call self.old 0) { inner = self.new.inner } }
     {
         if self.blows(0) {
@@ -119,15 +119,15 @@ impl<T: CountedRead> Read for Fuse<T> {
 impl<T: CountedWrite> Write for Fuse<T> {
     ghost use Rattle.counted_io.specs.Fuse.{IsInjectedFailure, after_call, is_due, bytes_left_after, room};
 
-    ghost contents = { λ fuse. T.contents fuse.inner };
+    ghost contents = { λ fuse. (T.writer fuse.inner).held };
 
     fn write(&mut self, buf: &[u8]) -> io::Result<usize>
         ensures bound { WritesAtMost result buf.now }
-        ensures bytes { WriteAppends (T.contents self.old.inner) (T.contents self.new.inner) result buf.now }
+        ensures bytes { WriteAppends (T.writer self.old.inner).held (T.writer self.new.inner).held result buf.now }
         ensures due { is_due self.old (length buf.now) ≡ true
             → IsInjectedFailure self.old.failure result × (self.new ≡ after_call self.old (length buf.now)) }
         ensures passed { is_due self.old (length buf.now) ≡ false
-            → CountsWrite result (take (room self.old (length buf.now)) buf.now) (T.counts self.old.inner) (T.counts self.new.inner) }
+            → CountsWrite result (take (room self.old (length buf.now)) buf.now) (T.writer self.old.inner).counts (T.writer self.new.inner).counts }
         ensures counted { self.new
             ≡ record (after_call self.old (length buf.now)) { inner = self.new.inner; bytes_left = bytes_left_after self.old result } }
         ensures room { self.old.is_blown ≡ false → IfOk result (λ taken. taken ≤ self.old.bytes_left) }
@@ -145,9 +145,9 @@ impl<T: CountedWrite> Write for Fuse<T> {
     }
 
     fn flush(&mut self) -> io::Result<()>
-        ensures bytes { Keeps (T.contents self.old.inner) (T.contents self.new.inner) }
+        ensures bytes { Keeps (T.writer self.old.inner).held (T.writer self.new.inner).held }
         ensures due { is_due self.old 0 ≡ true → IsErr result × (self.new ≡ after_call self.old 0) }
-        ensures passed { is_due self.old 0 ≡ false → CountsFlush result (T.counts self.old.inner) (T.counts self.new.inner) }
+        ensures passed { is_due self.old 0 ≡ false → CountsFlush result (T.writer self.old.inner).counts (T.writer self.new.inner).counts }
         ensures counted { self.new ≡ record (after_call self.old 0) { inner = self.new.inner } }
     {
         if self.blows(0) {

@@ -1,5 +1,4 @@
 //! Texts written completely, or up to the first failed write.
-ghost use Rattle.counted_io.specs.ReaderWriter.{writer};
 ghost use Rattle.counted_io.specs.Writing.{WritesText};
 
 use crate::counting::CountedWrite;
@@ -30,7 +29,7 @@ impl Fault for WriteFault {
 
 /// Writes the text with as many writes as it needs. A failed write isn't retried, not even after `Interrupted`, and nothing is flushed.
 pub fn write_text<W: CountedWrite>(out: &mut W, text: &[u8]) -> Result<(), WriteFault>
-    ensures { WritesText text.now result (writer W.contents W.counts out.old) (writer W.contents W.counts out.new) }
+    ensures { WritesText text.now result (W.writer out.old) (W.writer out.new) }
 {
     let mut rest = text;
     while !rest.is_empty() {

@@ -27,6 +27,7 @@ pub enum Expression<A: Allocator> {
     Combined(Operator, Box<Expression<A>, A>, Box<Expression<A>, A>),
 }
 
+// Below 2^62, so nothing overflows. Wrapping or NULL instead would make a filter's meaning depend on the machine.
 /// A numeric expression whose value is computed exactly in 64 bits, whatever the columns hold.
 #[derive(Drop)]
 pub struct Number<A: Allocator> {

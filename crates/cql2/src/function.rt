@@ -11,6 +11,7 @@ pub enum Function<A: Allocator> {
     HasNumber(HouseNumber),
     /// The segment's own name or one of its first alternate names is this text.
     HasName(Text<A>, NameLimit),
+    // Not the segment's shape, whose points programs don't see.
     /// The straight line from the segment's start to its end has a point in common with a shape.
     Intersects(Shape<A>),
     /// The segment starts inside one of these polygons or on its edge.

@@ -4,6 +4,7 @@ ghost use Rattle.cql2.specs.Femtodegrees.{in_femtodegrees};
 
 use std::alloc::Allocator;
 
+// Rounded to the unit of the files, so that tests of it fit in 64 bits.
 /// A vertex of a geometry. Its coordinates have at most nine digits, as those of a record.
 #[derive(Clone, Copy)]
 pub struct Vertex {
@@ -13,6 +14,7 @@ pub struct Vertex {
     ghost latitude_fits: { unsigned_abs latitude < 10 ^ 9 },
 }
 
+// Not rounded to the unit of the files: the edges of the box would move.
 /// A bound of a box: a longitude or latitude, exact to 15 decimals of a degree.
 #[derive(Clone, Copy)]
 pub struct Bound {

@@ -242,21 +242,33 @@ forgets held = record {
   frame = within_unwritten held.frame;
 }
 
--- and registers 7 to 9 as well
-pub record KeepsMore (a b c x y z : Kind) : Type 0 where
-  pub v7 : kind.IsWithin a x
-  pub v8 : kind.IsWithin b y
-  pub v9 : kind.IsWithin c z
+-- what registers 7 to 9 hold
+pub record KeptKinds : Type 0 where
+  pub v7 : Kind
+  pub v8 : Kind
+  pub v9 : Kind
 
-pub keeps_more : (a b c x y z : Kind) (held other : Held) → KeepsMore a b c x y z → KnowsMore held other
-    → IsWithin (knowing_kept (a ∷ b ∷ c ∷ []) held) (knowing_kept (x ∷ y ∷ z ∷ []) other)
-keeps_more a b c x y z held other kept more = record { registers = each; frame = more.frame }
+abbrev pub kept_kinds : Kind → Kind → Kind → KeptKinds
+kept_kinds v7 v8 v9 = record { v7 = v7; v8 = v8; v9 = v9 }
+
+abbrev pub list_of : KeptKinds → List Kind
+list_of kinds = kinds.v7 ∷ kinds.v8 ∷ kinds.v9 ∷ []
+
+-- registers 7 to 9 of one state know more than those of another
+pub record KeepsMore (some others : KeptKinds) : Type 0 where
+  pub v7 : kind.IsWithin some.v7 others.v7
+  pub v8 : kind.IsWithin some.v8 others.v8
+  pub v9 : kind.IsWithin some.v9 others.v9
+
+pub keeps_more : (some others : KeptKinds) (held other : Held) → KeepsMore some others → KnowsMore held other
+    → IsWithin (knowing_kept (list_of some) held) (knowing_kept (list_of others) other)
+keeps_more some others held other kept more = record { registers = each; frame = more.frame }
   where
     same : IsWithin (Reached entry) (Reached entry)
     same = reflexive (Reached entry)
 
-    each : (register : ℕ) → kind.IsWithin (get_or (registers_of (a ∷ b ∷ c ∷ []) held) register Nothing)
-        (get_or (registers_of (x ∷ y ∷ z ∷ []) other) register Nothing)
+    each : (register : ℕ) → kind.IsWithin (get_or (registers_of (list_of some) held) register Nothing)
+        (get_or (registers_of (list_of others) other) register Nothing)
     each zero = more.v0
     each (suc zero) = more.v1
     each (suc (suc zero)) = more.v2
@@ -272,8 +284,11 @@ keeps_more a b c x y z held other kept more = record { registers = each; frame =
 
 module _ (keeps : Bool) where
   pub knows_more : (held other : Held) → KnowsMore held other → IsWithin (knowing keeps held) (knowing keeps other)
-  knows_more held other = keeps_more _ _ _ _ _ _ held other (record { v7 = same; v8 = same; v9 = same })
+  knows_more held other = keeps_more all all held other (record { v7 = same; v8 = same; v9 = same })
     where
+      all : KeptKinds
+      all = kept_kinds (kept keeps) (kept keeps) (kept keeps)
+
       same : kind.IsWithin (kept keeps) (kept keeps)
       same = kinds.reflexive (kept keeps)
 

@@ -130,38 +130,40 @@ chain_leads on held joint falls false rest reaches later = record {
 byte_small : (segment : SegmentParts) → IsSegment segment → (at : ℕ) → at < 228 → chunk_number Byte segment.bytes at < 2 ^ 8
 byte_small segment is at within = rw (byte_read segment is at within) (is.bytes.bytes at)
 
-comparisons_lead : (on : Setting) (from : Scratch) (number byte : ℕ) (bytes : List ℕ) (falls : Bool) (skip place : ℕ) → number < 2 ^ 8
-    → AreSmall (byte ∷ bytes) → IsAt on.code place (comparisons byte bytes falls skip) skip
-    → Arrives on (running on (with_0 from number) place)
-    (exit_of falls (list_any (λ other. number == other) (byte ∷ bytes)) (place + word_count (comparisons byte bytes falls skip)) skip)
-comparisons_lead on from number byte [] falls skip place small others placed =
-    let comparison = if falls then NotEqual else Equal in
-    let end = place + word_count (skip_if comparison (Immediate (pos byte)) skip) in
-    subst (Arrives on (running on (with_0 from number) place))
-    (taken_to Equal falls number (immediate_operand (pos byte)) end skip
-    ∙ ap (λ (found : Bool). exit_of falls found end skip) (holds_equal number byte small others.0 ∙ sym (or_false (number == byte))))
-    (skip_leads on (with_0 from number) (Immediate (pos byte)) number (immediate_operand (pos byte))
-    (branches_on_immediate on from number (pos byte)) comparison skip place placed)
-comparisons_lead on from number byte (next ∷ bytes) falls skip place small others placed =
-    let held = with_0 from number in
-    let rest = comparisons next bytes falls skip in
-    let over = first_skip falls false (word_count rest) skip in
-    let first = skip_if Equal (Immediate (pos byte)) over in
-    let joint = joint_of place first rest skip in
-    let after = second_placed (Begins on.code) on.code place first rest skip placed in
-    let before : IsAt on.code place first over = record {
-      has = has_front on.code place first rest placed.has;
-      end = begins_at on.code joint.middle rest after.has after.end;
-      target = first_target (Begins on.code) joint falls false placed.end placed.target;
-    } in
-    let reaches = skip_reaches on held (Immediate (pos byte)) number (immediate_operand (pos byte))
-    (branches_on_immediate on from number (pos byte)) Equal over place before in
-    let later = list_any (λ other. number == other) (next ∷ bytes) in
-    chain_leads on held joint falls (number == byte) later
-    (subst (λ (found : Bool). Reaches on (running on held place) (running on held (if found then joint.middle + over else joint.middle)))
-    (holds_equal number byte small others.0) reaches)
-    (subst (λ (p : ℕ). Arrives on (running on held joint.middle) (exit_of falls later p skip)) joint.is
-    (comparisons_lead on from number next bytes falls skip joint.middle small others.1 after))
+-- a number is compared with these bytes, one after the other
+module _ (on : Setting) (from : Scratch) (number : ℕ) (small : number < 2 ^ 8) where
+  comparisons_lead : (byte : ℕ) (bytes : List ℕ) (falls : Bool) (skip place : ℕ) → AreSmall (byte ∷ bytes)
+      → IsAt on.code place (comparisons byte bytes falls skip) skip
+      → Arrives on (running on (with_0 from number) place)
+      (exit_of falls (list_any (λ other. number == other) (byte ∷ bytes)) (place + word_count (comparisons byte bytes falls skip)) skip)
+  comparisons_lead byte [] falls skip place others placed =
+      let comparison = if falls then NotEqual else Equal in
+      let end = place + word_count (skip_if comparison (Immediate (pos byte)) skip) in
+      subst (Arrives on (running on (with_0 from number) place))
+      (taken_to Equal falls number (immediate_operand (pos byte)) end skip
+      ∙ ap (λ (found : Bool). exit_of falls found end skip) (holds_equal number byte small others.0 ∙ sym (or_false (number == byte))))
+      (skip_leads on (with_0 from number) (Immediate (pos byte)) number (immediate_operand (pos byte))
+      (branches_on_immediate on from number (pos byte)) comparison skip place placed)
+  comparisons_lead byte (next ∷ bytes) falls skip place others placed =
+      let held = with_0 from number in
+      let rest = comparisons next bytes falls skip in
+      let over = first_skip falls false (word_count rest) skip in
+      let first = skip_if Equal (Immediate (pos byte)) over in
+      let joint = joint_of place first rest skip in
+      let after = second_placed (Begins on.code) on.code place first rest skip placed in
+      let before : IsAt on.code place first over = record {
+        has = has_front on.code place first rest placed.has;
+        end = begins_at on.code joint.middle rest after.has after.end;
+        target = first_target (Begins on.code) joint falls false placed.end placed.target;
+      } in
+      let reaches = skip_reaches on held (Immediate (pos byte)) number (immediate_operand (pos byte))
+      (branches_on_immediate on from number (pos byte)) Equal over place before in
+      let later = list_any (λ other. number == other) (next ∷ bytes) in
+      chain_leads on held joint falls (number == byte) later
+      (subst (λ (found : Bool). Reaches on (running on held place) (running on held (if found then joint.middle + over else joint.middle)))
+      (holds_equal number byte small others.0) reaches)
+      (subst (λ (p : ℕ). Arrives on (running on held joint.middle) (exit_of falls later p skip)) joint.is
+      (comparisons_lead next bytes falls skip joint.middle others.1 after))
 
 -- the block
 pub among_sound : (at byte : ℕ) (bytes : List ℕ) → at < 228 → AreSmall (byte ∷ bytes) → IsSoundBlock (among at byte bytes)
@@ -179,7 +181,7 @@ among_sound at byte bytes within small = record {
       let joint = joint_of place (load Byte at ∷ []) rest skip in
       let after = second_placed (Begins on.code) on.code place (load Byte at ∷ []) rest skip placed in
       let number = chunk_number Byte on.segment.bytes at in
-      let there = comparisons_lead on scratch number byte bytes falls skip (place + 1) (byte_small on.segment segment at within) small after in
+      let there = comparisons_lead on scratch number (byte_small on.segment segment at within) byte bytes falls skip (place + 1) small after in
       let long = segment.bytes.length in
       let does = loads on scratch Byte at (omega arith) in
       subst (λ (p : ℕ). Arrives on (running on scratch place) (exit_of falls (list_any (λ other. number == other) (byte ∷ bytes)) p skip)) joint.is

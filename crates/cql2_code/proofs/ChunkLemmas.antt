@@ -2,31 +2,10 @@
 use Rattle.std.proofs.Common.{◌≡◌, ℕ, zero, suc, ◌+◌, ◌-◌, ◌<◌, ◌≤◌, List, [], ◌∷◌, ◌++◌, length, true, false, refl, ap, ◌∙◌, arith}
 use Rattle.std.specs.Prelude.{take, replicate}
 use Rattle.std.proofs.lemmas.List.{take-replicate}
-use Rattle.byteorder.specs.Endian.{little_number}
 use Rattle.cql2.specs.declared.filter.Comparison.TheVariants.{Equal, Greater, Less}
 use Rattle.cql2_code.specs.Lowering.{byte_test, chunk_test, has_bytes, has_each, has_few, is_blank, is_greater, is_less}
-use Rattle.cql2_code.specs.Question.{Joined, Opposite, bytes_value}
+use Rattle.cql2_code.specs.Question.{Joined, Opposite}
 use Rattle.cql2_code.specs.declared.question.Chunk.TheVariants.{DoubleWord, Word}
-
-pub four_bytes : (bytes : List ℕ) → length bytes ≡ 4 → little_number 4 bytes ≡ bytes_value bytes
-four_bytes (a ∷ b ∷ c ∷ d ∷ []) count = refl
-four_bytes (a ∷ b ∷ c ∷ d ∷ e ∷ more) count = absurd (omega arith)
-four_bytes (a ∷ b ∷ c ∷ []) count = absurd (omega arith)
-four_bytes (a ∷ b ∷ []) count = absurd (omega arith)
-four_bytes (a ∷ []) count = absurd (omega arith)
-four_bytes [] count = absurd (omega arith)
-
-pub eight_bytes : (bytes : List ℕ) → length bytes ≡ 8 → little_number 8 bytes ≡ bytes_value bytes
-eight_bytes (a ∷ b ∷ c ∷ d ∷ e ∷ f ∷ g ∷ h ∷ []) count = refl
-eight_bytes (a ∷ b ∷ c ∷ d ∷ e ∷ f ∷ g ∷ h ∷ i ∷ more) count = absurd (omega arith)
-eight_bytes (a ∷ b ∷ c ∷ d ∷ e ∷ f ∷ g ∷ []) count = absurd (omega arith)
-eight_bytes (a ∷ b ∷ c ∷ d ∷ e ∷ f ∷ []) count = absurd (omega arith)
-eight_bytes (a ∷ b ∷ c ∷ d ∷ e ∷ []) count = absurd (omega arith)
-eight_bytes (a ∷ b ∷ c ∷ d ∷ []) count = absurd (omega arith)
-eight_bytes (a ∷ b ∷ c ∷ []) count = absurd (omega arith)
-eight_bytes (a ∷ b ∷ []) count = absurd (omega arith)
-eight_bytes (a ∷ []) count = absurd (omega arith)
-eight_bytes [] count = absurd (omega arith)
 
 -- one byte, and more
 pub has_each-more : (at : ℕ) (bytes : List ℕ) (byte : ℕ) (rest : List ℕ) → bytes ≡ byte ∷ rest → 0 < length rest

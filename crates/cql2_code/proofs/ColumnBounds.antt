@@ -3,8 +3,8 @@ use Rattle.std.proofs.Common.{◌≡◌, ℕ, zero, suc, ◌-◌, ◌<◌, ◌�
 use Rattle.std.proofs.Common.{Some, None, IfSome, option_map, if◌then◌else◌, refl, arith}
 use Rattle.std.specs.Prelude.{unsigned_abs}
 use Rattle.std.specs.Ordering.{int_eq}
-use Rattle.decimal.proofs.NumeralLemmas.{decimal_in-lt}
-use Rattle.decimal.specs.Numeral.{decimal_in}
+use Rattle.numerals.proofs.NumeralLemmas.{decimal_in-lt}
+use Rattle.numerals.specs.Numeral.{decimal_in}
 use Rattle.tl_fields.proofs.NumberLemmas.{number_of_lt}
 use Rattle.tl_fields.specs.Coordinate.{coordinate_of, negative}
 use Rattle.tl_fields.specs.Number.{number_of, trim}

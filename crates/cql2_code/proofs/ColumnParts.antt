@@ -1,28 +1,9 @@
 -- The questions about the texts in two fields, by the fields' lengths.
-use Rattle.std.proofs.Common.{◌≡◌, ℕ, zero, suc, ◌+◌, ◌-◌, ◌<◌, true, false, refl, ap, ◌∙◌, arith}
+use Rattle.std.proofs.Common.{◌≡◌, ℕ, zero, suc, ◌+◌, ◌-◌, ◌<◌, true, false, ap, ◌∙◌, arith}
 use Rattle.cql2.specs.declared.filter.Comparison.TheVariants.{Equal, Less}
 use Rattle.cql2_code.specs.BytePairs.{compares_pair}
 use Rattle.cql2_code.specs.Lowering.{is_blank, is_less_field, is_same_field}
-use Rattle.cql2_code.specs.Question.{Decided, Joined, Opposite, Question}
-
-pub same_without_first : (at left other more : ℕ) → left ≡ 0 → is_same_field at left other more ≡ is_blank other more
-same_without_first at zero other more none = refl
-same_without_first at (suc left) other more none = absurd (omega arith)
-
-pub same_without_second : (at left other more : ℕ) → 0 < left → more ≡ 0 → is_same_field at left other more ≡ is_blank at left
-same_without_second at zero other more some none = absurd (omega arith)
-same_without_second at (suc left) other zero some none = refl
-same_without_second at (suc left) other (suc more) some none = absurd (omega arith)
-
-pub less_without_second : (at left other more : ℕ) → more ≡ 0 → is_less_field at left other more ≡ Decided false
-less_without_second at zero other zero none = refl
-less_without_second at (suc left) other zero none = refl
-less_without_second at left other (suc more) none = absurd (omega arith)
-
-pub less_without_first : (at left other more : ℕ) → left ≡ 0 → 0 < more → is_less_field at left other more ≡ Opposite (is_blank other more)
-less_without_first at zero other zero none some = absurd (omega arith)
-less_without_first at zero other (suc more) none some = refl
-less_without_first at (suc left) other more none some = absurd (omega arith)
+use Rattle.cql2_code.specs.Question.{Joined, Opposite, Question}
 
 pub same_with_both : (at left other more : ℕ) → 0 < left → 0 < more → is_same_field at left other more
     ≡ Joined true (compares_pair at Equal other) (is_same_field (at + 1) (left - 1) (other + 1) (more - 1))

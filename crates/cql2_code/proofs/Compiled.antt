@@ -16,8 +16,8 @@ use Rattle.bpf_verify.specs.Annotation.{HasGoodAnnotation}
 use Rattle.cql2.specs.Truth.{selects}
 use Rattle.cql2.specs.declared.column.NumericColumn.{NumericColumn}
 use Rattle.cql2.specs.declared.filter.Filter.{Filter}
-use Rattle.tl_segments.proofs.ValidLemmas.{are_segments, county_segments}
-use Rattle.tl_segments.specs.County.{CountyParts, CountyReaders, LoadsCounty}
+use Rattle.tl_segments.proofs.ValidLemmas.{are_segments, loaded_segments}
+use Rattle.tl_segments.specs.County.{LoadsSegments, SegmentReaders}
 use Rattle.tl_segments.specs.Joining.{JoinedLines, segments_of}
 use Rattle.tl_segments.specs.Loading.{AreValidJoined, AreValidLines}
 use Rattle.tl_segments.specs.Segment.{SegmentParts, IsSegment}
@@ -159,7 +159,7 @@ module _ {A : Type 0} (text_of : TextFormat) (code : List Insn) (filter : Filter
       → IsExtractOf text_of filter score (segments_of joined lines) text count
   extract_of_lines joined lines valid are = only_extract (segments_of joined lines) (are_segments joined valid lines are)
 
-  -- or those of a county that was loaded
-  pub extract_of_county : (county : CountyParts) (old new : CountyReaders) → LoadsCounty county old new → (text : List ℕ) (count : ℕ)
-      → IsExtractIn text_of code county.segments text count → IsExtractOf text_of filter score county.segments text count
-  extract_of_county county old new loads = only_extract county.segments (county_segments county old new loads)
+  -- or those that were loaded
+  pub extract_of_segments : (segments : List SegmentParts) (old new : SegmentReaders) → LoadsSegments segments old new → (text : List ℕ) (count : ℕ)
+      → IsExtractIn text_of code segments text count → IsExtractOf text_of filter score segments text count
+  extract_of_segments segments old new loads = only_extract segments (loaded_segments segments old new loads)

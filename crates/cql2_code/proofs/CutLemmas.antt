@@ -43,22 +43,6 @@ first_at pattern at default within is =
     ap (λ (rest : List PatternPart). (pieces_of rest).first) (drop_more pattern at default within)
     ∙ ap (λ (part : PatternPart). (pieces_of (part ∷ drop (at + 1) pattern)).first) is ∙ first_none (drop (at + 1) pattern)
 
-pub first_next : (pattern : List PatternPart) (at : ℕ) (default : PatternPart) → at < length pattern → (get_or pattern at default ≡ Many → ⊥)
-    → length (pieces_of (drop at pattern)).first ≡ suc (length (pieces_of (drop (at + 1) pattern)).first)
-first_next pattern at default within other =
-    ap (λ (rest : List PatternPart). length (pieces_of rest).first) (drop_more pattern at default within)
-    ∙ ap length (one_part (get_or pattern at default) (drop (at + 1) pattern) other).first
-
-pub taken_at : (pattern : List PatternPart) (at : ℕ) (default : PatternPart) → at < length pattern → get_or pattern at default ≡ Many
-    → taken (drop at pattern) ≡ taken (drop (at + 1) pattern)
-taken_at pattern at default within is =
-    ap taken (drop_more pattern at default within) ∙ ap (λ (part : PatternPart). taken (part ∷ drop (at + 1) pattern)) is
-
-pub taken_next : (pattern : List PatternPart) (at : ℕ) (default : PatternPart) → at < length pattern → (get_or pattern at default ≡ Many → ⊥)
-    → taken (drop at pattern) ≡ suc (taken (drop (at + 1) pattern))
-taken_next pattern at default within other =
-    ap taken (drop_more pattern at default within) ∙ (one_part (get_or pattern at default) (drop (at + 1) pattern) other).takes
-
 -- a pattern is its first piece, and then a pattern that begins with `%` or is empty
 pub record IsSplit (pattern : List PatternPart) (count : ℕ) : Type 0 where
   pub front : take count pattern ≡ (pieces_of pattern).first
@@ -237,27 +221,16 @@ abbrev rows_cut : Field → ℕ → List PatternPart → List (List PatternPart)
 rows_cut field from first others is_open =
     let cut = behind_many first others is_open in rows_of field cut.is_open from cut.others
 
-no_row : (field : Field) (from : ℕ) (others : List (List PatternPart)) (is_open : Bool)
-    → rows_cut field from [] others is_open ≡ rows_of field is_open from others
-no_row field from [] is_open = refl
-no_row field from (piece ∷ others) is_open = refl
+-- A pattern is a `%`, and then a piece and the rest.
+pub record IsManyAndRest (pattern behind piece rest : List PatternPart) : Type 0 where
+  pub part : PatternPart
+  pub is : pattern ≡ part ∷ behind
+  pub begins : (pieces_of pattern).first ≡ []
+  pub split : IsFirstAndRest behind piece rest
 
--- `%` before another one, or at the end
-pub rows_skip : (field : Field) (from : ℕ) (pattern : List PatternPart) (part : PatternPart) (behind piece rest : List PatternPart)
-    → pattern ≡ part ∷ behind → (pieces_of pattern).first ≡ [] → IsFirstAndRest behind piece rest → length piece ≡ 0
-    → rows_behind field from pattern ≡ rows_behind field from rest
-rows_skip field from pattern part behind piece rest is begins split none =
-    let many = behind_is part behind (sym (ap (λ (parts : List PatternPart). (pieces_of parts).first) is) ∙ begins) in
-    let no_first = none_of (pieces_of behind).first (sym (ap length split.piece_is) ∙ none) in
-    ap (rows_behind field from) is ∙ ap (λ (first : PatternPart). rows_behind field from (first ∷ behind)) many
-    ∙ ap (λ (first : List PatternPart). rows_cut field from first (pieces_of behind).others (pieces_of behind).is_open) no_first
-    ∙ no_row field from (pieces_of behind).others (pieces_of behind).is_open
-    ∙ ap (λ (b : Bool). rows_of field b from (pieces_of behind).others) (sym split.is_open)
-    ∙ ap (rows_of field (pieces_of rest).is_open from) (sym split.others)
-  where
-    none_of : (parts : List PatternPart) → length parts ≡ 0 → parts ≡ []
-    none_of [] none = refl
-    none_of (part ∷ parts) none = absurd (omega arith)
+is_many : {pattern behind piece rest : List PatternPart} (cut : IsManyAndRest pattern behind piece rest) → cut.part ≡ Many
+is_many {behind = behind} cut =
+    behind_is cut.part behind (sym (ap (λ (parts : List PatternPart). (pieces_of parts).first) cut.is) ∙ cut.begins)
 
 -- the row of a piece
 abbrev pub row_of : Field → ℕ → List PatternPart → List PatternPart → ℕ → Question
@@ -279,16 +252,15 @@ row_is field from piece rest (next ∷ others) is_open none others_are open_is =
     ap (λ (b : Bool). (let first : ℕ → Question = λ shift. cell field piece b (not (length rest == 0)) (from + shift) in first))
     (sym (ap is_last others_are) ∙ last_taken rest none)
 
-pub rows_next : (field : Field) (from : ℕ) (pattern : List PatternPart) (part : PatternPart) (behind piece rest : List PatternPart)
-    → pattern ≡ part ∷ behind → (pieces_of pattern).first ≡ [] → IsFirstAndRest behind piece rest → 0 < length piece
-    → rows_behind field from pattern ≡ row_of field from piece rest ∷ rows_behind field (from + length piece) rest
-rows_next field from pattern part behind [] rest is begins split some = absurd (omega arith)
-rows_next field from pattern part behind (first ∷ piece) rest is begins split some =
-    let many = behind_is part behind (sym (ap (λ (parts : List PatternPart). (pieces_of parts).first) is) ∙ begins) in
+pub rows_next : (field : Field) (from : ℕ) (pattern behind piece rest : List PatternPart) → IsManyAndRest pattern behind piece rest
+    → 0 < length piece → rows_behind field from pattern ≡ row_of field from piece rest ∷ rows_behind field (from + length piece) rest
+rows_next field from pattern behind [] rest cut some = absurd (omega arith)
+rows_next field from pattern behind (first ∷ piece) rest cut some =
+    let split = cut.split in
     let others = (pieces_of behind).others in
     let is_open = (pieces_of behind).is_open in
     let later = rows_of field is_open (from + length (first ∷ piece)) others in
-    ap (rows_behind field from) is ∙ ap (λ (begin : PatternPart). rows_behind field from (begin ∷ behind)) many
+    ap (rows_behind field from) cut.is ∙ ap (λ (begin : PatternPart). rows_behind field from (begin ∷ behind)) (is_many cut)
     ∙ ap (λ (parts : List PatternPart). rows_cut field from parts others is_open) (sym split.piece_is)
     ∙ ap (λ (row : ℕ → Question). row ∷ later)
     (row_is field from (first ∷ piece) rest others is_open split.first split.others split.is_open)
@@ -301,11 +273,10 @@ rows_empty field from [] none = refl
 rows_empty field from (part ∷ pattern) none = absurd (omega arith)
 
 -- what is taken after a `%`
-pub taken_behind : (pattern : List PatternPart) (part : PatternPart) (behind piece rest : List PatternPart) → pattern ≡ part ∷ behind
-    → (pieces_of pattern).first ≡ [] → IsFirstAndRest behind piece rest → taken pattern ≡ length piece + taken rest
-taken_behind pattern part behind piece rest is begins split =
-    let many = behind_is part behind (sym (ap (λ (parts : List PatternPart). (pieces_of parts).first) is) ∙ begins) in
-    ap taken is ∙ ap (λ (first : PatternPart). taken (first ∷ behind)) many ∙ split.takes
+pub taken_behind : (pattern behind piece rest : List PatternPart) → IsManyAndRest pattern behind piece rest
+    → taken pattern ≡ length piece + taken rest
+taken_behind pattern behind piece rest cut =
+    ap taken cut.is ∙ ap (λ (first : PatternPart). taken (first ∷ behind)) (is_many cut) ∙ cut.split.takes
 
 -- Whole patterns
 

@@ -143,13 +143,12 @@ module _ (a b m n : ℕ) (x y : ℤ) (first : IsExactly a m x) (second : IsExact
   operated Remainder z less is =
       unless_zero _ z (int_rem x y) (int_eq y (pos 0)) refl is less (abs_remainder x y) (remainder_is first.word_is second.word_is)
 
-combined_exactly : (operator : Operator) (a b m n : ℕ) (left right : Option ℤ) → combined_bound operator a b < 2 ^ 63
-    → AreExactly a m left → AreExactly b n right
-    → AreExactly (combined_bound operator a b) (result_of (operation_of operator) Bits64 m n) (of_both (combined operator) left right)
-combined_exactly operator a b m n (Some x) (Some y) less first second number is =
-    operated a b m n x y (first x refl) (second y refl) operator number less is
-combined_exactly operator a b m n (Some x) None less first second number is = not_some number is
-combined_exactly operator a b m n None right less first second number is = not_some number is
+module _ (operator : Operator) (a b m n : ℕ) (less : combined_bound operator a b < 2 ^ 63) where
+  combined_exactly : (left right : Option ℤ) → AreExactly a m left → AreExactly b n right
+      → AreExactly (combined_bound operator a b) (result_of (operation_of operator) Bits64 m n) (of_both (combined operator) left right)
+  combined_exactly (Some x) (Some y) first second number is = operated a b m n x y (first x refl) (second y refl) operator number less is
+  combined_exactly (Some x) None first second number is = not_some number is
+  combined_exactly None right first second number is = not_some number is
 
 -- an expression's code computes its value
 pub computes_exactly : {A : Type 0} (expression : Expression A) (segment : SegmentParts) → is_bounded expression ≡ true
@@ -162,5 +161,5 @@ computes_exactly (Combined' operator p first q second) segment bounded =
     let parts = and_parts (is_bounded first && is_bounded second) _ bounded in
     let both = and_parts (is_bounded first) (is_bounded second) parts.0 in
     let less = ltb-true (combined_bound operator (bound first) (bound second)) (2 ^ 62) parts.1 in
-    combined_exactly operator (bound first) (bound second) (word_of first segment) (word_of second segment) (value_of first segment.bytes)
-    (value_of second segment.bytes) (omega arith) (computes_exactly first segment both.0) (computes_exactly second segment both.1)
+    combined_exactly operator (bound first) (bound second) (word_of first segment) (word_of second segment) (omega arith)
+    (value_of first segment.bytes) (value_of second segment.bytes) (computes_exactly first segment both.0) (computes_exactly second segment both.1)

@@ -3,9 +3,10 @@ use Rattle.std.proofs.Common.{pos, Bool, true, false, [], ◌∷◌, refl, arith
 use Rattle.bpf_kinds.proofs.KindLemmas as kinds
 use Rattle.bpf_kinds.specs.Interval.{single}
 use Rattle.bpf_kinds.specs.Kind as kind
+use Rattle.bpf_kinds.specs.declared.kind.Kind.{Kind}
 use Rattle.bpf_kinds.specs.declared.kind.Kind.TheVariants.{Number, Nothing}
 use Rattle.cql2_code.specs.Layout.{copy, from_argument_1, into_kept, into_record, kept_code, move}
-use Rattle.cql2_code.proofs.AbstractState.{Held, any_number, forgets, keeps_more, knowing, knowing_kept, nothing, rests_after}
+use Rattle.cql2_code.proofs.AbstractState.{Held, KeptKinds, any_number, forgets, keeps_more, kept_kinds, knowing, knowing_kept, nothing, rests_after}
 use Rattle.cql2_code.proofs.AbstractState.{resting, setting_7, setting_8, setting_9, to_record}
 use Rattle.cql2_code.proofs.Passes.{AllPass, Passes}
 
@@ -13,7 +14,13 @@ use Rattle.cql2_code.proofs.Passes.{AllPass, Passes}
 abbrev first : Held
 first = record nothing { v1 = to_record }
 
-zero_among : kind.IsWithin (Number (single 0)) any_number
+abbrev only_zero : Kind
+only_zero = Number (single 0)
+
+abbrev none : KeptKinds
+none = kept_kinds Nothing Nothing Nothing
+
+zero_among : kind.IsWithin only_zero any_number
 zero_among = record { low = omega arith; high = omega arith }
 
 any_within : kind.IsWithin any_number any_number
@@ -24,31 +31,34 @@ keeps_record = record {
   after = knowing_kept (Nothing ∷ Nothing ∷ Nothing ∷ []) first;
   passes = refl;
   straight = refl;
-  within = keeps_more _ _ _ _ _ _ first nothing (record { v7 = tt; v8 = tt; v9 = tt }) (forgets first);
+  within = keeps_more none none first nothing (record { v7 = tt; v8 = tt; v9 = tt }) (forgets first);
 }
 
 sets_7 : Passes true (move (into_kept 0) (pos 0)) setting_8
 sets_7 = record {
-  after = knowing_kept (Number (single 0) ∷ Nothing ∷ Nothing ∷ []) nothing;
+  after = knowing_kept (only_zero ∷ Nothing ∷ Nothing ∷ []) nothing;
   passes = refl;
   straight = refl;
-  within = keeps_more _ _ _ _ _ _ nothing nothing (record { v7 = zero_among; v8 = tt; v9 = tt }) (forgets nothing);
+  within = keeps_more (kept_kinds only_zero Nothing Nothing) (kept_kinds any_number Nothing Nothing) nothing nothing
+      (record { v7 = zero_among; v8 = tt; v9 = tt }) (forgets nothing);
 }
 
 sets_8 : Passes true (move (into_kept 1) (pos 0)) setting_9
 sets_8 = record {
-  after = knowing_kept (any_number ∷ Number (single 0) ∷ Nothing ∷ []) nothing;
+  after = knowing_kept (any_number ∷ only_zero ∷ Nothing ∷ []) nothing;
   passes = refl;
   straight = refl;
-  within = keeps_more _ _ _ _ _ _ nothing nothing (record { v7 = any_within; v8 = zero_among; v9 = tt }) (forgets nothing);
+  within = keeps_more (kept_kinds any_number only_zero Nothing) (kept_kinds any_number any_number Nothing) nothing nothing
+      (record { v7 = any_within; v8 = zero_among; v9 = tt }) (forgets nothing);
 }
 
 sets_9 : Passes true (move (into_kept 2) (pos 0)) (resting true)
 sets_9 = record {
-  after = knowing_kept (any_number ∷ any_number ∷ Number (single 0) ∷ []) nothing;
+  after = knowing_kept (any_number ∷ any_number ∷ only_zero ∷ []) nothing;
   passes = refl;
   straight = refl;
-  within = keeps_more _ _ _ _ _ _ nothing nothing (record { v7 = any_within; v8 = any_within; v9 = zero_among }) (forgets nothing);
+  within = keeps_more (kept_kinds any_number any_number only_zero) (kept_kinds any_number any_number any_number) nothing nothing
+      (record { v7 = any_within; v8 = any_within; v9 = zero_among }) (forgets nothing);
 }
 
 pub first_passes : (keeps : Bool) → AllPass keeps (copy into_record from_argument_1 ∷ kept_code keeps) (resting keeps)

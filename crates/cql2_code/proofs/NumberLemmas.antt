@@ -11,9 +11,9 @@ use Rattle.bpf_helpers.specs.Meaning.{coordinate, coordinate_word, field_number,
 use Rattle.bpf_helpers.proofs.CallLemmas.{number_below}
 use Rattle.bpf_insn.specs.Arithmetic.{condition_holds, low_bits}
 use Rattle.bpf_insn.specs.declared.instruction.Width.TheVariants.{Bits64}
-use Rattle.decimal.proofs.NumeralLemmas.{decimal_in-lt}
+use Rattle.numerals.proofs.NumeralLemmas.{decimal_in-lt}
 use Rattle.tl_fields.specs.Coordinate.{coordinate_of, negative}
-use Rattle.decimal.specs.Numeral.{decimal_in}
+use Rattle.numerals.specs.Numeral.{decimal_in}
 use Rattle.tl_fields.specs.Number.{number_of, trim}
 use Rattle.tl_records.specs.Layout.{field_at}
 use Rattle.tl_segments.specs.Segment.{SegmentParts}

@@ -26,7 +26,7 @@ use Rattle.cql2_code.specs.declared.bounds.Rectangle.{Rectangle}
 use Rattle.cql2_code.specs.declared.bounds.Rounding.{Rounding}
 use Rattle.cql2_code.specs.declared.bounds.Rounding.TheVariants.{Down, Up}
 use Rattle.cql2_code.specs.WithinCode.{within_code}
-use Rattle.cql2_code.specs.declared.edges.Limits.{Limits}
+use Rattle.cql2_code.specs.declared.edges.EdgeLimits.{EdgeLimits}
 use Rattle.cql2_code.specs.declared.line.Extent.{Extent}
 use Rattle.cql2_code.specs.declared.line.Extent.TheVariants.{Whole, Start}
 use Rattle.cql2_code.proofs.BoundsSides.{rest_near, whole_near}
@@ -70,7 +70,7 @@ marks_met_draws = insns.marks_argument_1 (pos 4) (small 4 (omega arith))
 
 -- parts that are skipped if the line lies beyond a box or beside another line
 
-beyond_draws : (limits : Limits) (part : List Insn) → Draws part → Draws (unless_beyond limits part)
+beyond_draws : (limits : EdgeLimits) (part : List Insn) → Draws part → Draws (unless_beyond limits part)
 beyond_draws limits part draws =
     draws_unless_both (compare_number Less from_start_longitude limits.west) _ _
     (insns.start_longitude_skips GreaterOrEqual limits.west) (insns.end_longitude_skips Less limits.west)

@@ -13,7 +13,7 @@ use Rattle.cql2_code.specs.Layout.{from_result}
 use Rattle.cql2_code.specs.ShapeCode.{compare, compare_number, edge_code, from_end_latitude, from_end_longitude, from_first, from_second, from_side}
 use Rattle.cql2_code.specs.ShapeCode.{from_start_latitude, from_start_longitude, limits_of, marks_met, meets_code, unless_beside, unless_beyond}
 use Rattle.cql2_code.specs.Skipping.{Compared, unless_both}
-use Rattle.cql2_code.specs.declared.edges.Limits.{Limits}
+use Rattle.cql2_code.specs.declared.edges.EdgeLimits.{EdgeLimits}
 use Rattle.cql2_code.proofs.DrawnRuns.{ComparesBoth, holds, runs_unless_both}
 use Rattle.cql2_code.proofs.ShapeHands.{Hand, Moves, compares_end_latitude, compares_end_longitude, compares_first_result, compares_first_second}
 use Rattle.cql2_code.proofs.ShapeHands.{compares_side_result, compares_side_second, compares_start_latitude, compares_start_longitude, copies_first_to_side}
@@ -35,7 +35,7 @@ fits_either true a b one two = two
 fits_either false a b one two = one
 
 -- limits fit into 64 bits with a sign
-pub record LimitsFit (limits : Limits) : Type 0 where
+pub record LimitsFit (limits : EdgeLimits) : Type 0 where
   pub west : FitsSigned w64 limits.west
   pub east : FitsSigned w64 limits.east
   pub south : FitsSigned w64 limits.south
@@ -63,7 +63,7 @@ grouped false false true n rest = refl
 grouped false false false n rest = refl
 
 -- a line isn't beyond limits in any of the four directions
-abbrev pub reaches : Edge → Limits → Bool
+abbrev pub reaches : Edge → EdgeLimits → Bool
 reaches line limits =
     (not (are_less line.start.longitude line.end.longitude limits.west) && not (are_greater line.start.longitude line.end.longitude limits.east))
     && (not (are_less line.start.latitude line.end.latitude limits.south) && not (are_greater line.start.latitude line.end.latitude limits.north))
@@ -109,7 +109,7 @@ module _ (on : Setting) (base : Scratch) (line : Edge) where
       by_both true runs = record { to = hand; runs = runs; lead = refl; mark_is = refl }
       by_both false runs = record { to = marks.to; runs = runs; lead = marks.lead; mark_is = marks.mark_is }
 
-  pub beyond_marks : (limits : Limits) → LimitsFit limits → IsShort line → (part : List Insn) (hand : Hand) (met : Bool) → Marks part hand met
+  pub beyond_marks : (limits : EdgeLimits) → LimitsFit limits → IsShort line → (part : List Insn) (hand : Hand) (met : Bool) → Marks part hand met
       → Marks (unless_beyond limits part) hand (reaches line limits && met)
   beyond_marks limits fit short part hand met marks =
       let start = near_fits line.start short.start in

@@ -36,18 +36,28 @@ four_written {T} code a b c d old =
     ∙ ap (λ (rest : List Insn). code c ++ rest) (append_assoc (code d) [] old)))
 
 -- a part is refused, after which the code of those that are done was written
-pub before_refused : {T X : Type 0} (code : T → List Insn) {parts before : List T} (others done : List T) (part : T) (old new : List Insn)
-    {fault : CompileFault} (result : Result X CompileFault) (other : List Insn) → parts ≡ before ++ done → before ≡ others ++ part ∷ []
-    → new ≡ flat_map code done ++ old → IsErrAnd result (λ same. same ≡ fault) → MayBeRefused (code part ++ new) fault
-    → IsPrepended result (flat_map code parts ++ old) other
-before_refused {T} code others done part old new result other all last written =
+-- The code of the parts after one is written.
+pub record IsWrittenAfter {T : Type 0} (code : T → List Insn) (parts : List T) (part : T) (old new : List Insn) : Type 0 where
+  pub before : List T
+  pub others : List T
+  pub done : List T
+  pub all : parts ≡ before ++ done
+  pub last : before ≡ others ++ part ∷ []
+  pub written : new ≡ flat_map code done ++ old
+
+pub before_refused : {T X : Type 0} (code : T → List Insn) {parts : List T} (part : T) (old new : List Insn) {fault : CompileFault}
+    (result : Result X CompileFault) (other : List Insn) → IsWrittenAfter code parts part old new → IsErrAnd result (λ same. same ≡ fault)
+    → MayBeRefused (code part ++ new) fault → IsPrepended result (flat_map code parts ++ old) other
+before_refused {T} code part old new result other after =
+    let others = after.others in
+    let done = after.done in
     part_refused (flat_map code others) result other
     (ap (λ (list : List T). flat_map code list ++ old)
-    (all ∙ ap (λ (list : List T). list ++ done) last ∙ append_assoc others (part ∷ []) done)
+    (after.all ∙ ap (λ (list : List T). list ++ done) after.last ∙ append_assoc others (part ∷ []) done)
     ∙ ap (λ (list : List Insn). list ++ old) (flat_map_both code others (part ∷ done))
     ∙ append_assoc (flat_map code others) (code part ++ flat_map code done) old
     ∙ ap (λ (rest : List Insn). flat_map code others ++ rest) (append_assoc (code part) (flat_map code done) old)
-    ∙ ap (λ (rest : List Insn). flat_map code others ++ (code part ++ rest)) (sym written))
+    ∙ ap (λ (rest : List Insn). flat_map code others ++ (code part ++ rest)) (sym after.written))
 
 -- edges through vertices, from the last to the first
 
@@ -103,8 +113,14 @@ module _ (code : Edge → List Insn) (vertices : List Vertex) (next : ℕ) (edge
   edges_refused result other =
       let others = edges_before (next - 1) vertices in
       let rest = edges_through (drop next vertices) in
-      before_refused code {before = others ++ edge ∷ []} others rest edge old new result other
-      (edges_after (next - 1) vertices ∙ ap (λ (edges : List Edge). others ++ edges) is ∙ sym (append_assoc others (edge ∷ []) rest)) refl written
+      before_refused code edge old new result other (record {
+        before = others ++ edge ∷ [];
+        others = others;
+        done = rest;
+        all = edges_after (next - 1) vertices ∙ ap (λ (edges : List Edge). others ++ edges) is ∙ sym (append_assoc others (edge ∷ []) rest);
+        last = refl;
+        written = written;
+      })
 
 -- the edge that closes a ring
 

@@ -6,16 +6,12 @@ use Rattle.cql2.specs.declared.column.TextColumn.{TextColumn}
 use Rattle.cql2.specs.declared.filter.Comparison.TheVariants.{Equal}
 use Rattle.cql2_code.specs.Layout.{Refuses}
 use Rattle.cql2_code.specs.Lowering.{asks_about, asks_if_filled, asks_without_blanks_before, byte_test, field_of, is_blank_field}
-use Rattle.cql2_code.specs.Question.{Decided, Joined, Opposite, Question}
+use Rattle.cql2_code.specs.Question.{Joined, Opposite, Question}
 use Rattle.cql2_code.specs.declared.fault.CompileFault.{CompileFault}
 use Rattle.cql2_code.specs.declared.field.Field.{Field}
 use Rattle.cql2_code.specs.declared.question.Exits.{Exits}
 use Rattle.cql2_code.proofs.Refused.{refuses_as, second_refused}
 use Rattle.cql2_code.proofs.Written.{written_as}
-
-pub without_none : (ask : Field → Question) (at left : ℕ) → left ≡ 0 → asks_without_blanks_before ask at left ≡ Decided false
-without_none ask at zero none = refl
-without_none ask at (suc left) none = absurd (omega arith)
 
 pub without_more : (ask : Field → Question) (at left : ℕ) → 0 < left
     → asks_without_blanks_before ask at left

@@ -3,7 +3,7 @@ use Rattle.std.proofs.Common.{◌≡◌, ℕ, ℤ, Bool, ap, ◌∙◌}
 use Rattle.std.specs.Prelude.{FitsSigned, ◌+ℤ◌, ◌-ℤ◌, ◌*ℤ◌, int_lt, int_le}
 use Rattle.std.specs.Int.{w64, cast_signed}
 use Rattle.bpf_insn.specs.Arithmetic.{condition_holds, immediate_operand, low_bits, result_of}
-use Rattle.bpf_insn.specs.declared.instruction.Condition.TheVariants.{SignedGreater, SignedGreaterOrEqual, SignedLess, SignedLessOrEqual}
+use Rattle.bpf_insn.specs.declared.instruction.Condition.TheVariants.{SignedGreater, SignedGreaterOrEqual, SignedLess}
 use Rattle.bpf_insn.specs.declared.instruction.Operation.TheVariants.{Add, Multiply, Subtract}
 use Rattle.bpf_insn.specs.declared.instruction.Width.TheVariants.{Bits64}
 use Rattle.cql2_code.proofs.WordLemmas.{add_is, multiply_is, read_first, read_second, subtract_is, word_is, written}
@@ -38,9 +38,6 @@ compares a b fit is =
 
 pub compares_less : (a b : ℤ) → Fit a b → condition_holds SignedLess Bits64 (word a) (word b) ≡ int_lt a b
 compares_less a b fit = compares a b fit (λ (x : ℤ) (y : ℤ). int_lt x y)
-
-pub compares_less_or_equal : (a b : ℤ) → Fit a b → condition_holds SignedLessOrEqual Bits64 (word a) (word b) ≡ int_le a b
-compares_less_or_equal a b fit = compares a b fit (λ (x : ℤ) (y : ℤ). int_le x y)
 
 pub compares_greater : (a b : ℤ) → Fit a b → condition_holds SignedGreater Bits64 (word a) (word b) ≡ int_lt b a
 compares_greater a b fit = compares a b fit (λ (x : ℤ) (y : ℤ). int_lt y x)

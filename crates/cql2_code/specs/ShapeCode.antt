@@ -39,7 +39,7 @@ use Rattle.cql2_code.specs.declared.bounds.Corner.{Corner}
 use Rattle.cql2_code.specs.declared.bounds.Rectangle.{Rectangle}
 use Rattle.cql2_code.specs.declared.bounds.Rounding.{Rounding}
 use Rattle.cql2_code.specs.declared.bounds.Rounding.TheVariants.{Down, Up}
-use Rattle.cql2_code.specs.declared.edges.Limits.{Limits}
+use Rattle.cql2_code.specs.declared.edges.EdgeLimits.{EdgeLimits}
 use Rattle.cql2_code.specs.declared.line.Extent.{Extent}
 use Rattle.cql2_code.specs.declared.line.Extent.TheVariants.{Whole, Start}
 use Rattle.cql2_code.specs.declared.question.Subject.TheVariants as subject
@@ -145,14 +145,14 @@ abbrev pub marks_met : List Insn
 marks_met = combine_number operation.Or into_argument_1 (pos 4) ∷ []
 
 -- a part is skipped if both ends lie beyond limits in one of the four directions
-abbrev pub unless_beyond : Limits → List Insn → List Insn
+abbrev pub unless_beyond : EdgeLimits → List Insn → List Insn
 unless_beyond limits part =
     unless_both (compare_number Less from_start_longitude limits.west) (compare_number Less from_end_longitude limits.west)
     (unless_both (compare_number Greater from_start_longitude limits.east) (compare_number Greater from_end_longitude limits.east)
     (unless_both (compare_number Less from_start_latitude limits.south) (compare_number Less from_end_latitude limits.south)
     (unless_both (compare_number Greater from_start_latitude limits.north) (compare_number Greater from_end_latitude limits.north) part)))
 
-abbrev pub limits_of : Edge → Limits
+abbrev pub limits_of : Edge → EdgeLimits
 limits_of edge = record {
   west = int_min edge.start.longitude edge.end.longitude;
   east = int_max edge.start.longitude edge.end.longitude;
@@ -202,7 +202,7 @@ polygon_code polygon = flat_map polygon_edge_code (edges_of_polygon polygon) ++ 
 abbrev pub rounded_up : Bound → ℤ
 rounded_up bound = if bound.rest == 0 then bound.millionths else bound.millionths +ℤ pos 1
 
-abbrev pub inner_limits : Rectangle → Limits
+abbrev pub inner_limits : Rectangle → EdgeLimits
 inner_limits edge =
     record { west = rounded_up edge.west; east = edge.east.millionths; south = rounded_up edge.south; north = edge.north.millionths }
 

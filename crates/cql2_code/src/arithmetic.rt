@@ -28,6 +28,7 @@ fn operation_of(operator: Operator) -> Operation
         Operator::Add => Operation::Add,
         Operator::Subtract => Operation::Subtract,
         Operator::Multiply => Operation::Multiply,
+        // Signed division rounds towards zero, as in SQL.
         Operator::Divide => Operation::SignedDivide,
         Operator::Remainder => Operation::SignedModulo,
     }

@@ -1,4 +1,13 @@
 //! The code of a box.
+//!
+//! Its bounds have up to 15 decimals and aren't rounded to the files' unit, as its edges would move. A segment's own coordinates are whole millionths
+//! of a degree. So wherever a coordinate is compared with a bound, the bound can be rounded inwards without changing an answer. A corner's distance
+//! across the line is a product and can't be: a corner with a rest is computed in two parts, whole millionths and femtodegrees, and rounded down and
+//! up, which brackets it. A line meets a box if it meets an edge or has an end inside.
+//!
+//! Always: an edge is a box without width or height that goes east or north, so a line that isn't beyond it doesn't lie beside it. The numbers of
+//! words in jumps are sums of the lengths of the parts that follow; whoever changes a part changes them. As everywhere in this crate, the code is
+//! written from its end to its front, so a function's last statement writes the words that run first.
 ghost use Rattle.std.specs.Prelude.{◌≡◌, ◌≤◌, ◌++◌, ◌==◌, ◌&&◌};
 ghost use Rattle.std.specs.List.{flat_map};
 ghost use Rattle.bpf_insn.specs.Code.{word_count};
@@ -9,7 +18,7 @@ ghost use Rattle.cql2_code.specs.ShapeCode.{rounding_shift, unless_outside, whol
 ghost use Rattle.cql2_code.specs.Layout.{IsPrepended};
 ghost use Rattle.cql2_code.specs.declared.bounds.Rounding.TheVariants as rounding_variants;
 
-use crate::edges::{Limits, marks_unless_beyond, point_across};
+use crate::edges::{EdgeLimits, marks_unless_beyond, point_across};
 use crate::fault::CompileFault;
 use crate::instructions::{copy, from_kept, from_result, into_argument_1, wide_load};
 use crate::question::opposite;
@@ -53,6 +62,7 @@ pub(crate) fn prepend_bounds<A: Allocator + Copy>(
     ensures { IsPrepended result (bounds_code bounds ++ code.old) code.new }
 {
     prepend_edges(code, bounds)?;
+    // A line inside of the box meets none of its edges.
     prepend_ends(code, bounds)
 }
 
@@ -103,6 +113,7 @@ pub(crate) fn outside(
     requires { words ≤ 5 }
     ensures { result ≡ outside_by bounds longitude latitude words }
 {
+    // The ends of a line are whole millionths, so moving a bound inwards to the next one changes no answer.
     let west = rounded_up(bounds.west);
     let east = bounds.east.millionths as i32;
     let south = rounded_up(bounds.south);
@@ -182,17 +193,19 @@ fn prepend_edge<A: Allocator + Copy>(
     ensures { IsPrepended result (bounds_edge_code edge ++ code.old) code.new }
 {
     code.prepend_all(&marks_unless_beyond(inner_limits(edge)))?;
+    // Past the marks, which take 9 words.
     code.prepend_all(&both_lie(Comparison::Less, 9))?;
     prepend_corners(code, Rounding::Down, edge)?;
+    // Past the corners, the comparison above (2 words) and the marks (9).
     code.prepend_all(&both_lie(Comparison::Greater, corners_words(edge) + 11))?;
     prepend_corners(code, Rounding::Up, edge)
 }
 
 /// Returns the range of whole millionths of a degree that lie in an edge's range of longitudes and latitudes.
-fn inner_limits(edge: Rectangle) -> Limits
+fn inner_limits(edge: Rectangle) -> EdgeLimits
     ensures { result ≡ inner_limits edge }
 {
-    Limits {
+    EdgeLimits {
         west: rounded_up(edge.west),
         east: edge.east.millionths as i32,
         south: rounded_up(edge.south),
@@ -263,6 +276,7 @@ fn corner_words(corner: Corner) -> u8
     ensures value { result ≡ word_count (corner_across rounding_variants.Down corner) }
     ensures few { result ≤ 21 }
 {
+    // 7 words for the rests, 6 for rounding, 8 for the whole millionths.
     if is_whole(corner) { 7 } else { 21 }
 }
 
@@ -334,9 +348,11 @@ fn round_first(rounding: Rounding) -> [Insn; 5]
     ensures { result ≡ round_first rounding }
 {
     [
+        // A quotient is rounded towards zero, which is down if no number is negative.
         wide_load(into_second(), rounding_shift(rounding)),
         combine(Operation::Add, into_first(), from_second()),
         combine_number(Operation::SignedDivide, into_first(), 1_000_000_000),
+        // Two subtractions, as an immediate has 32 bits.
         combine_number(Operation::Subtract, into_first(), 2_000_000_000),
         combine_number(Operation::Subtract, into_first(), 2_000_000_000),
     ]

@@ -1,4 +1,8 @@
 //! Compiling a filter to a program.
+//!
+//! A filter is compiled from its end to its front, so every jump's distance is known when it is written, and nothing is patched. Each part is asked
+//! whether it is true, or whether it is false, and has two exits. NOT swaps the question, NULL answers no to both, and no register holds a truth
+//! value.
 ghost use Rattle.std.specs.Prelude.{◌≡◌, ◌≤◌, ◌++◌, IfErr, IfOk, IsErr, true, if◌then◌else◌};
 ghost use Rattle.bpf_flow.specs.Flow.{IsForward};
 ghost use Rattle.bpf_insn.specs.Code.{word_count};
@@ -57,6 +61,7 @@ pub fn compile<A: Allocator + Copy>(
 fn prepend_beginning<A: Allocator + Copy>(code: &mut CodeSuffix<A>) -> Result<(), CompileFault>
     ensures { IsPrepended result (begun code.old) code.new }
 {
+    // Set at the start, so that these registers hold numbers everywhere and the proof of acceptance can look at one instruction at a time.
     if code.writes_kept() {
         code.prepend(move_number(into_kept(2), 0))?;
         code.prepend(move_number(into_kept(1), 0))?;
@@ -104,6 +109,7 @@ fn prepend_filter<A: Allocator + Copy>(
     let mut filter = filter;
     let mut asked = asked;
     let mut exits = exits;
+    // Chains of AND and OR nest to the left and may be long, so only their second parts take stack.
     loop {
         match filter {
             Filter::And(first, second) => {
@@ -119,6 +125,7 @@ fn prepend_filter<A: Allocator + Copy>(
                 filter = first;
             }
             Filter::Not(inner) => {
+                // The other question with the same exits: no register holds a truth value.
                 asked = !asked;
                 filter = inner;
             }

@@ -1,4 +1,14 @@
 //! The code of an edge of a shape.
+//!
+//! An edge is tested by itself, as programs have no loops: a shape's code is the code of its edges, one after the other.
+//!
+//! How far a point lies across a line is a cross product; its sign says on which side. A line meets an edge unless both its ends lie on one side of
+//! the edge, both ends of the edge on one side of the line, or the line beyond the edge in one of the four directions. That last test settles
+//! collinear ones. For a polygon, a ray from each end of the line counts crossings, by parity.
+//!
+//! Always: register 1 has the marks, 1 and 2 while the ray from the start and from the end has crossed an odd number of edges, 4 once the line meets
+//! the shape; registers 7, 8, 9 and 5 have the line's ends; 2 to 4 are free. Vertices have at most nine digits, so every product and difference fits
+//! in 64 bits. Numbers such as 9 and 28 are lengths of the code that a jump skips.
 ghost use Rattle.std.specs.Prelude.{◌≡◌, ◌≤◌, ◌++◌, int_lt, if◌then◌else◌};
 ghost use Rattle.std.specs.Int.{int_max, int_min};
 ghost use Rattle.bpf_insn.specs.Arithmetic.{immediate_operand};
@@ -22,14 +32,14 @@ use std::alloc::Allocator;
 
 /// An edge of a shape.
 #[derive(Clone, Copy)]
-pub(crate) struct Edge {
+pub(crate) struct BoxEdge {
     pub start: Vertex,
     pub end: Vertex,
 }
 
 /// The range of an edge's longitudes and latitudes.
 #[derive(Clone, Copy)]
-pub(crate) struct Limits {
+pub(crate) struct EdgeLimits {
     pub west: i32,
     pub east: i32,
     pub south: i32,
@@ -37,52 +47,52 @@ pub(crate) struct Limits {
 }
 
 /// Returns how far an edge goes to the east.
-fn eastward(edge: Edge) -> i32
+fn eastward(edge: BoxEdge) -> i32
     ensures { result ≡ eastward (edge_of edge.start edge.end) }
 {
     (edge.end.longitude - edge.start.longitude) as i32
 }
 
 /// Returns how far an edge goes to the north.
-fn northward(edge: Edge) -> i32
+fn northward(edge: BoxEdge) -> i32
     ensures { result ≡ northward (edge_of edge.start edge.end) }
 {
     (edge.end.latitude - edge.start.latitude) as i32
 }
 
 /// Returns the lesser longitude of an edge's ends.
-fn west(edge: Edge) -> i32
+fn west(edge: BoxEdge) -> i32
     ensures { result ≡ int_min edge.start.longitude edge.end.longitude }
 {
     edge.start.longitude.min(edge.end.longitude) as i32
 }
 
 /// Returns the greater longitude of an edge's ends.
-fn east(edge: Edge) -> i32
+fn east(edge: BoxEdge) -> i32
     ensures { result ≡ int_max edge.start.longitude edge.end.longitude }
 {
     edge.start.longitude.max(edge.end.longitude) as i32
 }
 
 /// Returns the lesser latitude of an edge's ends.
-fn south(edge: Edge) -> i32
+fn south(edge: BoxEdge) -> i32
     ensures { result ≡ int_min edge.start.latitude edge.end.latitude }
 {
     edge.start.latitude.min(edge.end.latitude) as i32
 }
 
 /// Returns the greater latitude of an edge's ends.
-fn north(edge: Edge) -> i32
+fn north(edge: BoxEdge) -> i32
     ensures { result ≡ int_max edge.start.latitude edge.end.latitude }
 {
     edge.start.latitude.max(edge.end.latitude) as i32
 }
 
 /// Returns the range of an edge's longitudes and latitudes.
-fn limits_of(edge: Edge) -> Limits
+fn limits_of(edge: BoxEdge) -> EdgeLimits
     ensures { result ≡ limits_of (edge_of edge.start edge.end) }
 {
-    Limits {
+    EdgeLimits {
         west: west(edge),
         east: east(edge),
         south: south(edge),
@@ -91,7 +101,7 @@ fn limits_of(edge: Edge) -> Limits
 }
 
 /// Returns the comparison that holds unless an end of the line lies to the west of an edge, by how far the end and the edge's start lie across it.
-fn east_comparison(edge: Edge) -> Comparison
+fn east_comparison(edge: BoxEdge) -> Comparison
     ensures { result ≡ (if int_lt edge.start.latitude edge.end.latitude then LessOrEqual else GreaterOrEqual) }
 {
     if edge.start.latitude < edge.end.latitude {
@@ -117,7 +127,7 @@ fn end_across(east: i32, north: i32, longitude: Register, latitude: Register) ->
 /// Writes the code that leaves how far an end of the line lies across an edge in register 3.
 fn prepend_across<A: Allocator + Copy>(
     code: &mut CodeSuffix<A>,
-    edge: Edge,
+    edge: BoxEdge,
     longitude: Register,
     latitude: Register,
 ) -> Result<(), CompileFault>
@@ -127,16 +137,17 @@ fn prepend_across<A: Allocator + Copy>(
 }
 
 /// Returns how far an edge's start lies across it.
-fn start_across(edge: Edge) -> i64
+fn start_across(edge: BoxEdge) -> i64
     ensures { result ≡ start_across (edge_of edge.start edge.end) }
 {
+    // Coordinates have at most nine digits, so this fits in 64 bits.
     let east = (edge.end.longitude - edge.start.longitude) * edge.start.latitude;
     let north = (edge.end.latitude - edge.start.latitude) * edge.start.longitude;
     east - north
 }
 
 /// Loads how far an edge's start lies across it into register 4.
-fn load_start(edge: Edge) -> Insn
+fn load_start(edge: BoxEdge) -> Insn
     ensures { result ≡ wide_load shape_code.into_second (immediate_operand (start_across (edge_of edge.start edge.end))) }
 {
     wide_load(into_second(), start_across(edge).cast_unsigned())
@@ -145,7 +156,7 @@ fn load_start(edge: Edge) -> Insn
 /// Writes the code that leaves how far the line's ends and an edge's start lie across the edge in registers 2 to 4.
 fn prepend_sides<A: Allocator + Copy>(
     code: &mut CodeSuffix<A>,
-    edge: Edge,
+    edge: BoxEdge,
 ) -> Result<(), CompileFault>
     ensures { IsPrepended result (sides_code (edge_of edge.start edge.end) ++ code.old) code.new }
 {
@@ -156,10 +167,11 @@ fn prepend_sides<A: Allocator + Copy>(
 }
 
 /// Returns the code that exchanges a mark if the ray from an end of the line crosses an edge.
-fn ray(edge: Edge, latitude: Register, side: Register, mark: i32) -> [Insn; 4]
+fn ray(edge: BoxEdge, latitude: Register, side: Register, mark: i32) -> [Insn; 4]
     ensures { result ≡ ray_code (edge_of edge.start edge.end) latitude side mark }
 {
     [
+        // An edge has its lower end and not its upper one, so a ray through a vertex crosses one of its two edges.
         skip_by_number(Comparison::Less, latitude, south(edge), 3),
         skip_by_number(Comparison::GreaterOrEqual, latitude, north(edge), 2),
         skip(east_comparison(edge), side, from_second(), 1),
@@ -170,7 +182,7 @@ fn ray(edge: Edge, latitude: Register, side: Register, mark: i32) -> [Insn; 4]
 /// Writes the code that exchanges the marks of the rays that cross an edge.
 fn prepend_rays<A: Allocator + Copy>(
     code: &mut CodeSuffix<A>,
-    edge: Edge,
+    edge: BoxEdge,
 ) -> Result<(), CompileFault>
     ensures { IsPrepended result (rays_code (edge_of edge.start edge.end) ++ code.old) code.new }
 {
@@ -214,10 +226,10 @@ fn beside(other: Register, words: u8) -> [Insn; 4]
 }
 
 /// Returns the code that marks that the line meets a shape, unless both of the line's ends lie beyond limits in one of the four directions.
-pub(crate) fn marks_unless_beyond(limits: Limits) -> [Insn; 9]
+pub(crate) fn marks_unless_beyond(limits: EdgeLimits) -> [Insn; 9]
     ensures { result ≡ unless_beyond limits marks_met }
 {
-    let Limits {
+    let EdgeLimits {
         west,
         east,
         south,
@@ -237,7 +249,7 @@ pub(crate) fn marks_unless_beyond(limits: Limits) -> [Insn; 9]
 }
 
 /// Returns the code that marks that the line meets an edge, unless it lies beyond the edge in one of the four directions.
-fn apart(edge: Edge) -> [Insn; 9]
+fn apart(edge: BoxEdge) -> [Insn; 9]
     ensures { result ≡ unless_beyond (limits_of (edge_of edge.start edge.end)) marks_met }
 {
     marks_unless_beyond(limits_of(edge))
@@ -246,22 +258,24 @@ fn apart(edge: Edge) -> [Insn; 9]
 /// Writes the code that marks that the line meets an edge.
 fn prepend_meets<A: Allocator + Copy>(
     code: &mut CodeSuffix<A>,
-    edge: Edge,
+    edge: BoxEdge,
 ) -> Result<(), CompileFault>
     ensures { IsPrepended result (meets_code (edge_of edge.start edge.end) ++ code.old) code.new }
 {
     code.prepend_all(&apart(edge))?;
+    // Past the marks, which take 9 words.
     code.prepend_all(&beside(from_result(), 9))?;
     code.prepend_all(&vertex_across(edge.end))?;
     code.prepend(copy(into_side(), from_first()))?;
     code.prepend_all(&vertex_across(edge.start))?;
+    // Past everything above: 7 + 1 + 7 + 4 + 9 words.
     code.prepend_all(&beside(from_second(), 28))
 }
 
 /// Writes the code of an edge.
 pub(crate) fn prepend_edge<A: Allocator + Copy>(
     code: &mut CodeSuffix<A>,
-    edge: Edge,
+    edge: BoxEdge,
 ) -> Result<(), CompileFault>
     ensures { IsPrepended result (edge_code (edge_of edge.start edge.end) ++ code.old) code.new }
 {
@@ -272,7 +286,7 @@ pub(crate) fn prepend_edge<A: Allocator + Copy>(
 /// Writes the code of a polygon's edge.
 pub(crate) fn prepend_polygon_edge<A: Allocator + Copy>(
     code: &mut CodeSuffix<A>,
-    edge: Edge,
+    edge: BoxEdge,
 ) -> Result<(), CompileFault>
     ensures { IsPrepended result (polygon_edge_code (edge_of edge.start edge.end) ++ code.old) code.new }
 {

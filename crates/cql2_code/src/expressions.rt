@@ -1,4 +1,12 @@
 //! Comparisons of numeric expressions.
+//!
+//! First whether each part has a value, then one difference compared with 0. A comparison with an unknown part is NULL, so all parts are asked first,
+//! the first one's before the second one's. Values are whole numbers below 2^62, which the reader of filters guarantees, so a difference fits in 64
+//! bits and one jump decides. An operand that is computed first waits in register 7, 8 or 9, which survive the calls of helper functions; a level
+//! says which. Three are enough: one for the first side of a comparison, two for an expression.
+//!
+//! Always: the value of an expression ends in register 0, and what is kept at lower levels is unchanged. Recursion follows the expression, whose
+//! number of operators has its limit.
 ghost use Rattle.std.specs.Prelude.{◌≡◌, ◌≤◌, ◌+◌, ◌++◌, suc, true};
 ghost use Rattle.bpf_insn.specs.Code.{word_count};
 ghost use Rattle.cql2.specs.Expression.{depth, kept_for};
@@ -72,6 +80,7 @@ fn prepend_difference<A: Allocator + Copy>(
     ensures { Prepends result (compares_difference first.now comparison second.now) exits code.old code.new }
 {
     code.prepend_zero_comparison(comparison, exits)?;
+    // Both are below 2^62, so their difference fits in 64 bits.
     prepend_second(code, Operator::Subtract, 0, second)?;
     prepend_expression(code, first, 0)
 }
@@ -111,10 +120,12 @@ fn prepend_second<A: Allocator + Copy>(
     requires { level + kept_for second.now (depth second.now) ≤ 3 }
     ensures { IsPrepended result (second_code operator level second.now (number_code second.now (suc level)) ++ code.old) code.new }
 {
+    // A literal needs no register.
     if let Expression::Literal(literal) = second {
         return prepend_literal(code, operator, *literal);
     }
     prepend_kept(code, operator, level)?;
+    // Kept in a register that survives the calls which compute the first operand.
     prepend_expression(code, second, level + 1)?;
     code.prepend(copy(into_kept(level), from_result()))
 }
@@ -127,6 +138,7 @@ fn prepend_literal<A: Allocator + Copy>(
 ) -> Result<(), CompileFault>
     ensures { IsPrepended result (combine_literal operator literal.number ++ code.old) code.new }
 {
+    // An immediate has 32 bits.
     match i32::try_from(literal.number) {
         Ok(narrow) => code.prepend(operate(operator, Source::Immediate(narrow))),
         Err(_) => {
@@ -205,6 +217,7 @@ fn prepend_known_divisor<A: Allocator + Copy>(
     requires shallow { depth divisor.now ≤ 3 }
     ensures { Prepends result (Joined true (is_known divisor.now) (is_divisor divisor.now)) exits code.old code.new }
 {
+    // A division by 0 is NULL in a filter, while the instruction set has a result for it.
     let words = code.words();
     prepend_divisor(code, divisor, exits)?;
     let exits = code.exits_before(words, true, exits);

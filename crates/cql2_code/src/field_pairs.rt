@@ -100,6 +100,7 @@ fn prepend_same<A: Allocator + Copy>(
     requires short_too { more ≤ NAME_LENGTH }
     ensures { Prepends result (is_same_field at left other more) exits code.old code.new }
 {
+    // Blanks pad the shorter field.
     if left == 0 {
         return prepend_blanks(code, other, more, exits);
     }

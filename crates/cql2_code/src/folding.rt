@@ -39,6 +39,7 @@ fn lower_case(byte: u8) -> u8
 fn is_upper_case(byte: u8) -> bool
     ensures { result ≡ is_upper_case byte }
 {
+    // 215 is the multiplication sign. ß and ÿ have no upper case in Latin-1.
     is_within(65, 90, byte) || is_within(192, 222, byte) && byte != 215
 }
 
@@ -52,6 +53,7 @@ fn is_within(low: u8, high: u8, byte: u8) -> bool
 fn unaccented(byte: u8) -> u8
     ensures { result ≡ unaccented byte }
 {
+    // Æ, Ð, Ø, Þ and ß have no diacritic to leave out.
     match byte {
         192..=197 => b'A',
         199 => b'C',

@@ -1,4 +1,11 @@
 //! The instructions of a filter's program.
+//!
+//! Registers are named by what they are for: 0 has the answer of a call and whatever is compared, 1 to 3 the arguments of calls, which empty them, 6
+//! the record's pointer, and 7 to 9 numbers that survive calls. The frame holds nothing but a name of 32 bytes at its end. Reading and writing have a
+//! function each (`from_..`, `into_..`), as `bpf_insn` has a type for each.
+//!
+//! Always: registers 6 to 10 have one use in the whole program, and 0 to 5 keep nothing across a call. The proof that the verifier accepts relies on
+//! that: what an instruction needs of registers and frame is read off the instruction alone, with no history. A new form of code has to fit in.
 ghost use Rattle.std.specs.Prelude.{◌≡◌, ◌≤◌, pos};
 ghost use Rattle.bpf_insn.specs.declared.code.TheConstants.{MAX_WORDS};
 ghost use Rattle.bpf_insn.specs.declared.instruction.Insn.{Insn};
@@ -184,6 +191,7 @@ pub(crate) fn jump(distance: usize) -> Insn
     requires { distance ≤ MAX_WORDS }
     ensures { result ≡ jump (pos distance) }
 {
+    // The short form if it reaches, as any assembler would write it.
     Insn::Jump(match i16::try_from(distance) {
         Ok(distance) => JumpDistance::Short(distance),
         Err(_) => JumpDistance::Long(distance as i32),
@@ -230,6 +238,7 @@ pub(crate) fn store_word(word: u8, name: &[u8; 32]) -> Insn
     requires { word ≤ 7 }
     ensures { result ≡ store_word word name.now }
 {
+    // An immediate has 32 bits, so a store writes four bytes at most.
     let from = usize::from(word) * 4;
     Insn::StoreImmediate {
         size: StoreSize::Word,

@@ -4,7 +4,7 @@ ghost use Rattle.bpf_insn.specs.declared.instruction.Insn.{Insn};
 ghost use Rattle.bpf_meaning.specs.Extract.{IsExtractIn, IsSelection, TextFormat, texts_of};
 ghost use Rattle.cql2.specs.declared.column.NumericColumn.{NumericColumn};
 ghost use Rattle.cql2.specs.declared.filter.Filter.{Filter};
-ghost use Rattle.tl_segments.specs.County.{CountyParts, CountyReaders, LoadsCounty};
+ghost use Rattle.tl_segments.specs.County.{LoadsSegments, SegmentReaders};
 ghost use Rattle.tl_segments.specs.Joining.{JoinedLines, segments_of};
 ghost use Rattle.tl_segments.specs.Loading.{AreValidJoined, AreValidLines};
 ghost use Rattle.tl_segments.specs.Segment.{SegmentParts, IsSegment};
@@ -29,8 +29,7 @@ pub fn extracts_what_is_true<A: Allocator>()
         → (joined : JoinedLines) (lines : List (List ℕ)) → AreValidJoined joined → AreValidLines Rt1 lines
         → (text : List ℕ) (count : ℕ) → IsExtractIn text_of code (segments_of joined lines) text count
         → IsExtractOf text_of filter score (segments_of joined lines) text count }
-    ensures county { (text_of : TextFormat) (code : List Insn) (filter : Filter A) (score : Option NumericColumn) → Chooses code filter score
-        → (county : CountyParts) (old new : CountyReaders) → LoadsCounty county old new
-        → (text : List ℕ) (count : ℕ) → IsExtractIn text_of code county.segments text count
-        → IsExtractOf text_of filter score county.segments text count }
+    ensures loaded { (text_of : TextFormat) (code : List Insn) (filter : Filter A) (score : Option NumericColumn) → Chooses code filter score
+        → (segments : List SegmentParts) (old new : SegmentReaders) → LoadsSegments segments old new
+        → (text : List ℕ) (count : ℕ) → IsExtractIn text_of code segments text count → IsExtractOf text_of filter score segments text count }
 {}

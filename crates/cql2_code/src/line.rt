@@ -57,6 +57,8 @@ fn end_latitude(extent: Extent) -> CoordinateColumn
 fn set_registers() -> [Insn; 5]
     ensures { result ≡ set_registers }
 {
+    // The order and the choice of instructions leave no doubt which registers are set before each: the proof of acceptance looks at one instruction
+    // at a time.
     [
         wide_load(into_argument_1(), 0),
         copy(into_end_latitude(), from_result()),

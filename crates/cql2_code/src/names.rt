@@ -26,6 +26,7 @@ pub(crate) fn prepend_has_number<A: Allocator + Copy>(
     let exits = exits.asked(asked);
     let end = code.words();
     code.prepend_constant(false, exits)?;
+    // From the last range to the first, as code is written back to front.
     for range in (0..=MAX_RANGES as u16).rev() {
         prepend_range(code, house, range, end, exits)?;
     }
@@ -67,6 +68,7 @@ fn prepend_range<A: Allocator + Copy>(
 fn checks_for_end(at: u16) -> bool
     ensures { result ≡ function.checks_for_end at }
 {
+    // At powers of two: a segment with few ranges or names leaves early, and the code grows by ten tests at most.
     matches!(at, 1 | 2 | 4 | 8 | 16 | 32 | 64 | 128 | 256 | 512)
 }
 
@@ -87,6 +89,7 @@ pub(crate) fn prepend_has_name<A: Allocator + Copy>(
     if asked {
         return Ok(());
     }
+    // With more names than are checked, the answer is NULL, neither yes nor no.
     let few = Test {
         subject: Subject::Names,
         comparison: Comparison::LessOrEqual,

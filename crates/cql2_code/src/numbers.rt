@@ -29,6 +29,7 @@ pub(crate) fn has_value(column: NumericColumn) -> Test
     Test {
         subject: match column {
             NumericColumn::Number(field) => Subject::HasNumber(field),
+            // A coordinate of 0 is NULL, as its helper function returns 0 for a missing one.
             NumericColumn::Coordinate(place) => Subject::Coordinate(place),
         },
         comparison: Comparison::NotEqual,
@@ -54,6 +55,7 @@ pub(crate) fn prepend_number<A: Allocator + Copy>(
     };
     let words = code.words();
     code.prepend_test(test, exits)?;
+    // A missing number is read as 0, so only a comparison that holds for 0 has to ask whether there is one.
     if !holds_of_zero(comparison, literal) {
         return Ok(());
     }

@@ -1,4 +1,8 @@
 //! Questions whether the text in a field matches a pattern.
+//!
+//! A pattern with several `%` is matched greedily, each piece at its first place after the piece before it, by a grid of tests: a row for each piece,
+//! a cell for each place. A tree of the choices would multiply with each `%`. Rows share the code below them, so the grid grows with the number of
+//! pieces, and greed is exact because whatever follows a `%` loses no place where it may begin if the piece before it ends earlier.
 ghost use Rattle.std.specs.Prelude.{◌≡◌, ◌≤◌, ◌+◌, ◌==◌, [], length, suc, true};
 ghost use Rattle.bpf_insn.specs.Code.{word_count};
 ghost use Rattle.cql2_code.specs.Grid.{IsLaid, grid, lay_row, lay_rows};
@@ -41,7 +45,7 @@ pub(crate) fn prepend_pattern<A: Allocator + Copy>(
         return code.prepend_constant(false, exits);
     }
     let words = code.words();
-    let search = Search {
+    let search = PatternSearch {
         field,
         words,
         exits,
@@ -94,7 +98,7 @@ fn prepend_ends_at<A: Allocator + Copy>(
 
 /// A search for pieces in a field, with the exits of its code and the number of words after it.
 #[derive(Clone, Copy)]
-struct Search {
+struct PatternSearch {
     field: Field,
     words: usize,
     exits: Exits,
@@ -104,7 +108,7 @@ struct Search {
 /// Writes the code that searches a field, from a byte on, for the pieces of a pattern that begins with `%`.
 fn prepend_search<A: Allocator + Copy>(
     code: &mut CodeSuffix<A>,
-    search: Search,
+    search: PatternSearch,
     from: u8,
     pattern: &[PatternPart],
     columns: usize,
@@ -125,7 +129,7 @@ fn prepend_search<A: Allocator + Copy>(
 /// first row to the end of all code; before a row is written, they are those of the row below.
 fn prepend_rows<A: Allocator + Copy>(
     code: &mut CodeSuffix<A>,
-    search: Search,
+    search: PatternSearch,
     from: u8,
     pattern: &[PatternPart],
     starts: &mut [usize],
@@ -146,7 +150,7 @@ fn prepend_rows<A: Allocator + Copy>(
     }
     prepend_rows(code, search, from + piece.len() as u8, others, starts)?;
     let past = code.exits_before(search.words, true, search.exits);
-    let row = Row {
+    let row = PatternRow {
         field: search.field,
         from,
         is_last: taken(others) == 0,
@@ -157,7 +161,7 @@ fn prepend_rows<A: Allocator + Copy>(
 
 /// A piece's row: the first place where it can be in a field, and what follows it.
 #[derive(Clone, Copy)]
-struct Row {
+struct PatternRow {
     field: Field,
     from: u8,
     is_last: bool,
@@ -168,7 +172,7 @@ struct Row {
 /// Writes the cells of a row, before the rows below, and replaces the starts of the cells below by those of these cells.
 fn prepend_cells<A: Allocator + Copy>(
     code: &mut CodeSuffix<A>,
-    row: Row,
+    row: PatternRow,
     piece: &[PatternPart],
     shift: u8,
     starts: &mut [usize],
@@ -193,7 +197,7 @@ fn prepend_cells<A: Allocator + Copy>(
 
 fn prepend_cell<A: Allocator + Copy>(
     code: &mut CodeSuffix<A>,
-    row: Row,
+    row: PatternRow,
     piece: &[PatternPart],
     shift: u8,
     exits: Exits,

@@ -89,6 +89,7 @@ pub(crate) fn prepend_are_wanted<A: Allocator + Copy>(
     requires short { length piece.now ≤ NAME_LENGTH }
     ensures { Prepends result (are_wanted at piece.now) exits code.old code.new }
 {
+    // Bytes that are known exactly are compared up to eight at a time.
     if let Some(bytes) = exact_bytes(piece) {
         return prepend_bytes(code, at, bytes.as_slice(), exits);
     }
@@ -132,6 +133,7 @@ fn prepend_wanted<A: Allocator + Copy>(
             exits,
         ),
         PatternPart::Alike(folding, byte) => {
+            // A test for each byte that is alike, since no helper function folds letters.
             let bytes = bytes_alike(folding, byte);
             prepend_among(code, at, bytes.as_slice(), exits)
         }
@@ -167,6 +169,7 @@ fn prepend_among<A: Allocator + Copy>(
     let Some((byte, rest)) = bytes.split_first() else {
         return code.prepend_constant(false, exits);
     };
+    // The test of one byte has its own load. Several bytes share one.
     if rest.is_empty() {
         return code.prepend_test(byte_test(at, Comparison::Equal, *byte), exits);
     }

@@ -69,6 +69,7 @@ impl Exits {
 pub(crate) fn field_id(column: NumberColumn) -> u8
     ensures { result ≡ field_id column }
 {
+    // The order of the table in `bpf_helpers`. `cql2`, which has the columns, knows nothing of programs.
     match column {
         NumberColumn::Tlid => 0,
         NumberColumn::Fraddl => 1,
@@ -120,6 +121,7 @@ pub(crate) fn opposite(comparison: Comparison) -> Comparison
 pub(crate) fn condition_of(comparison: Comparison) -> Condition
     ensures { result ≡ condition_of comparison }
 {
+    // Signed, as coordinates in the west are negative and no number reaches 2^63.
     match comparison {
         Comparison::Equal => Condition::Equal,
         Comparison::NotEqual => Condition::NotEqual,

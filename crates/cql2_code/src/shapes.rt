@@ -13,7 +13,7 @@ ghost use Rattle.cql2_code.specs.ShapeCode.{edge_code, inside_code, mark_compari
 ghost use Rattle.cql2_code.specs.declared.line.Extent.TheVariants.{Start, Whole};
 
 use crate::bounds::prepend_bounds;
-use crate::edges::{Edge, prepend_edge, prepend_polygon_edge};
+use crate::edges::{BoxEdge, prepend_edge, prepend_polygon_edge};
 use crate::fault::CompileFault;
 use crate::instructions::{copy, from_argument_1, into_argument_1, into_result};
 use crate::line::{Extent, prepend_known_line, prepend_line};
@@ -105,9 +105,10 @@ fn prepend_shape<A: Allocator + Copy>(
     ensures { IsPrepended result (shape_code.shape_code shape.now ++ code.old) code.new }
 {
     match shape {
+        // An edge from a vertex to itself, so a point needs no code of its own.
         Shape::Point(vertex) => prepend_edge(
             code,
-            Edge {
+            BoxEdge {
                 start: *vertex,
                 end: *vertex,
             },
@@ -132,12 +133,12 @@ fn prepend_edges<A: Allocator + Copy>(
 }
 
 /// Returns the edge from the previous vertex to this one.
-fn edge_to(vertices: &[Vertex], next: usize) -> Edge
+fn edge_to(vertices: &[Vertex], next: usize) -> BoxEdge
     requires some { 0 < next }
     requires inside { next < length vertices.now }
     ensures { edges_through (drop (next - 1) vertices.now) ≡ edge_of result.start result.end ∷ edges_through (drop next vertices.now) }
 {
-    Edge {
+    BoxEdge {
         start: vertices[next - 1],
         end: vertices[next],
     }
@@ -150,6 +151,7 @@ fn prepend_polygons<A: Allocator + Copy>(
 ) -> Result<(), CompileFault>
     ensures { IsPrepended result (flat_map polygon_code several.now.polygons.items ++ code.old) code.new }
 {
+    // Edge by edge: programs have no loops that could go over a list of them.
     for polygon in several.polygons.iter().rev() {
         prepend_polygon(code, polygon)?;
     }
@@ -173,9 +175,11 @@ fn inside() -> [Insn; 5]
 {
     [
         copy(into_first(), from_argument_1()),
+        // The marks of the rays.
         combine_number(Operation::And, into_first(), 3),
         skip_by_number(Comparison::Equal, from_first(), 0, 1),
         combine_number(Operation::Or, into_argument_1(), 4),
+        // The rays of the next polygon begin anew.
         combine_number(Operation::And, into_argument_1(), 4),
     ]
 }
@@ -221,11 +225,11 @@ fn prepend_ring_edges<A: Allocator + Copy>(
 }
 
 /// Returns the edge that closes a ring.
-fn closing_edge(vertices: &[Vertex]) -> Edge
+fn closing_edge(vertices: &[Vertex]) -> BoxEdge
     requires { 0 < length vertices.now }
     ensures { edges_of_ring vertices.now ≡ edges_through vertices.now ++ edge_of result.start result.end ∷ [] }
 {
-    Edge {
+    BoxEdge {
         start: vertices[vertices.len() - 1],
         end: vertices[0],
     }

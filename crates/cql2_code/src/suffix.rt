@@ -1,4 +1,14 @@
 //! Code written back to front, so that each jump's distance is known when it is written.
+//!
+//! Jumps in a filter's program lead ahead, so whoever writes the end first knows each distance when it writes the jump, and nothing is patched. The
+//! price is that callers read upside down: the last statement of a function writes the words that run first.
+//!
+//! A question has two exits: it falls through its end for one answer and skips some words for the other. Two questions in a row are `let words =
+//! code.words()`, the second one's code, `exits_before`, and the first one's code: the answer that settles both skips the second.
+//!
+//! Always: `words` counts the words of all instructions, so distances need no pass over them; the code never exceeds a program's limit, and a filter
+//! is refused as too long only if its program would be. A conditional jump has 16 bits and is replaced by two instructions where they don't reach, so
+//! callers needn't care about distances.
 ghost use Rattle.std.specs.Prelude.{◌≡◌, ◌≤◌, ◌-◌, ◌∷◌, ◌++◌, [], pos, IfErr, IfOk};
 ghost use Rattle.std.specs.List.{list_any};
 ghost use Rattle.bpf_insn.specs.Code.{word_count};
@@ -96,6 +106,7 @@ impl<A: Allocator + Copy> CodeSuffix<A> {
         let Some((first, rest)) = insns.split_first() else {
             return Ok(());
         };
+        // The last instruction is written first.
         self.prepend_all(rest)?;
         self.prepend(*first)
     }
@@ -108,6 +119,7 @@ impl<A: Allocator + Copy> CodeSuffix<A> {
     {
         let mut builder = CodeBuilder::new(alloc);
         for insn in self.reversed.iter().rev() {
+            // The limit held for each instruction when it was added, so only an allocation can fail.
             let Ok(()) = builder.push(*insn) else {
                 return Err(CompileFault::Memory);
             };
@@ -203,6 +215,7 @@ impl<A: Allocator + Copy> CodeSuffix<A> {
         match i32::try_from(operand) {
             Ok(operand) => self.prepend_skip_if(comparison, Source::Immediate(operand), exits),
             Err(_) => {
+                // An immediate has 32 bits, so a greater number is loaded into register 1.
                 self.prepend_skip_if(comparison, Source::Register(from_argument_1()), exits)?;
                 self.prepend(wide_load(into_argument_1(), operand.cast_unsigned()))
             }
@@ -223,6 +236,7 @@ impl<A: Allocator + Copy> CodeSuffix<A> {
         match i16::try_from(exits.skip) {
             Ok(distance) => self.prepend(jump_if(comparison, operand, distance)),
             Err(_) => {
+                // A conditional jump has only 16 bits, so its opposite skips a jump that has more.
                 self.prepend_jump(exits)?;
                 self.prepend(jump_if(opposite(comparison), operand, 1))
             }
@@ -267,6 +281,7 @@ impl<A: Allocator + Copy> CodeSuffix<A> {
         ensures { IsPrepended result (subject_code (NameIs name wanted.now) ++ self.old) self.new }
     {
         self.prepend(call(Helper::NameIs))?;
+        // Each test stores the name again, so that its code depends on that test alone.
         self.prepend_name(wanted)?;
         self.prepend(move_number(into_argument_3(), 30))?;
         self.prepend(move_to_name())?;

@@ -1,4 +1,11 @@
 //! Questions about the texts in columns.
+//!
+//! A blank field is NULL, and the four columns of house numbers are right-justified, so the text of a column may begin at any byte of its field or be
+//! missing. Both are settled here, once for all questions: `TextQuestion` is asked only of a field that begins with its text. A comparison of two
+//! columns is a question about the first whose own question is about the second, so a right-justified pair is a square of cases.
+//!
+//! Always: whether a field is blank is asked only of a question that a blank field would answer with yes, as the others say no anyway. The code of a
+//! right-justified column has a copy of the question for each byte where the text may begin.
 ghost use Rattle.std.specs.Prelude.{◌≡◌, ◌≤◌, ◌<◌, true};
 ghost use Rattle.bpf_insn.specs.Code.{word_count};
 ghost use Rattle.cql2_code.specs.Layout.{Prepends};
@@ -48,10 +55,12 @@ fn prepend_asks_about<A: Allocator + Copy, Q: TextQuestion>(
 {
     let field = field_of(column);
     if column.is_right_justified() {
+        // Blanks before a house number aren't part of it, so the text may begin at any byte.
         return prepend_without_blanks_before(code, field, question, exits);
     }
     let words = code.words();
     question.prepend(code, field, exits)?;
+    // A blank field answers the question with no anyway.
     if !of_blanks {
         return Ok(());
     }

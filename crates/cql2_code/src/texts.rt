@@ -1,4 +1,11 @@
 //! Questions about the texts in fields.
+//!
+//! Equality is asked in chunks of eight and four bytes, since a load and a jump compare as many at once. Order is asked byte by byte: a little-endian
+//! number isn't ordered as its bytes are. Blanks at the end don't count, as in SQL's CHAR, so a text ends where nothing but blanks follows, and
+//! blanks pad the shorter of two texts.
+//!
+//! Always: no question reads past its field, and each is asked of the field's own bytes, without the frame. Greater isn't the opposite of less with
+//! the sides exchanged, as only one side is known when the code is written; so both have a function. The functions recurse over at most 30 bytes.
 ghost use Rattle.std.specs.Prelude.{◌≡◌, ◌≤◌, ◌<◌, ◌+◌, ◌-◌, length, map, false, IfOk};
 ghost use Rattle.bpf_insn.specs.Code.{word_count};
 ghost use Rattle.cql2.specs.declared.pattern.PatternPart.TheVariants.{Exactly};
@@ -181,6 +188,7 @@ pub(crate) fn prepend_bytes<A: Allocator + Copy>(
     requires fits { at + length bytes.now ≤ RECORD_LENGTH }
     ensures { Prepends result (has_bytes at bytes.now) exits code.old code.new }
 {
+    // A load and a comparison take up to eight bytes at once.
     let Some((first, rest)) = bytes.split_at_checked(8) else {
         return prepend_few(code, at, bytes, exits);
     };
@@ -215,6 +223,7 @@ fn prepend_few<A: Allocator + Copy>(
     let test = Test {
         subject: Subject::Load(Chunk::Word, at),
         comparison: Comparison::Equal,
+        // A load of four bytes fills with zeros.
         operand: word(first),
     };
     if rest.is_empty() {

@@ -72,5 +72,6 @@ fn prepend_both_ends<A: Allocator + Copy>(
     ensures { IsPrepended result (within_code Whole bounds ++ code.old) code.new }
 {
     prepend_end_in(code, bounds, from_kept(2), from_end_latitude())?;
+    // Past the tests of the other end (4 words) and the mark.
     code.prepend_all(&outside(bounds, from_kept(0), from_kept(1), 5))
 }

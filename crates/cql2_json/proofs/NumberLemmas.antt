@@ -85,11 +85,6 @@ digits-cut text =
       clean = digits-clean text;
     })
 
--- one byte of these is taken
-byte-cut : (text : List ℕ) → ((byte : ℕ) (rest : List ℕ) → text ≡ byte ∷ rest → is_control byte ≡ false) → Cut text (drop 1 text)
-byte-cut [] clean = nothing []
-byte-cut (byte ∷ rest) clean = record { front = byte ∷ []; splits = refl; clean = clean-cons byte [] (clean byte rest refl) refl }
-
 same-byte : (byte c : ℕ) → (byte == c) ≡ true → byte ≡ c
 same-byte byte c is = grind (arith, nat_tests)
 

@@ -22,11 +22,6 @@ two-of (x ∷ []) a b some few first second = absurd (omega arith)
 two-of (x ∷ y ∷ []) a b some few first second = cc
 two-of (x ∷ y ∷ z ∷ xs) a b some few first second = absurd (omega arith)
 
-one-of : {X : Type 0} (xs : List X) (a : X) → 1 ≤ length xs → length xs < 2 → a ≡ get_or xs 0 a → xs ≡ a ∷ []
-one-of [] a some few first = absurd (omega arith)
-one-of (x ∷ []) a some few first = cc
-one-of (x ∷ y ∷ xs) a some few first = absurd (omega arith)
-
 -- an object with two members
 abbrev pub pair_text : {A : Type 0} → Pair → Bor (List ℕ) × Value A → Bor (List ℕ) × Value A → List Step → Translation
 pair_text pair first second path =

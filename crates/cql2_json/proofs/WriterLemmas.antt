@@ -134,30 +134,6 @@ writes-inside old left step translation inside a =
     subst (λ p. Writes old (translation p) left (Ok tt)) inside.path_entered
     (same-text old left step (translation inside.entered.path.items) inside a)
 
-same-stop : {A : Type 0} (old entered new : Writer A) (translation : Translation) (flaw : Flaw)
-    → (entered.text ≡ old.text) × (entered.limit ≡ old.limit) → Writes entered translation new (Err flaw) → Writes old translation new (Err flaw)
-same-stop {A} old entered new translation TooLong same a =
-    let items : entered.text.items ≡ old.text.items = ap (λ (v : Vec ℕ A). v.items) same.0 in
-    let limit = same.1 in
-    let size = ap length items in
-    let room : old.limit - length old.text.items ≡ entered.limit - length entered.text.items = omega arith in
-    ap (path_at (written translation)) room ∙ a
-same-stop old entered new (Ok ps) (Expected needs) same a = a
-same-stop old entered new (Ok ps) Memory same a = tt
-same-stop {A} old entered new (Err fault) (Expected needs) same a =
-    let items : entered.text.items ≡ old.text.items = ap (λ (v : Vec ℕ A). v.items) same.0 in
-    let limit = same.1 in
-    let size = ap length items in
-    let short = a.2 in
-    (a.0, a.1, omega arith)
-same-stop old entered new (Err fault) Memory same a = tt
-
-pub stops-inside : {A : Type 0} (old entered new : Writer A) (step : Step) (translation : List Step → Translation) (flaw : Flaw)
-    → entered.path.items ≡ at old.path.items step → (entered.text ≡ old.text) × (entered.limit ≡ old.limit)
-    → Writes entered (translation entered.path.items) new (Err flaw) → Writes old (translation (at old.path.items step)) new (Err flaw)
-stops-inside old entered new step translation flaw path same a =
-    subst (λ p. Writes old (translation p) new (Err flaw)) path (same-stop old entered new (translation entered.path.items) flaw same a)
-
 pub out_of_memory : {A : Type 0} (old new : Writer A) (translation : Translation) → Writes old translation new (Err Memory)
 out_of_memory old new (Ok ps) = tt
 out_of_memory old new (Err fault) = tt

@@ -54,6 +54,7 @@ impl JsonOperator {
             "+" => Some(JsonOperator::Plus),
             "-" => Some(JsonOperator::Minus),
             "*" => Some(JsonOperator::Times),
+            // Text has neither `/` nor `^`: its parser refuses them, at the value that they come from.
             "/" => Some(JsonOperator::Over),
             "%" => Some(JsonOperator::Modulo),
             "div" => Some(JsonOperator::Quotient),

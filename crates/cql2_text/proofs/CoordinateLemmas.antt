@@ -8,8 +8,8 @@ use Rattle.std.proofs.Math.Nat.{mul-lt-mul_of_pos_right, one-le-pow, pow-le-pow_
 use Rattle.std.proofs.lemmas.Bool.{and_parts}
 use Rattle.std.proofs.lemmas.Bool.Decides.{nat_tests}
 use Rattle.std.proofs.lemmas.Nat.{pow-add}
-use Rattle.decimal.specs.Numeral.{decimal_in, is_decimal}
-use Rattle.decimal.proofs.NumeralLemmas.{digits_value-lt}
+use Rattle.numerals.specs.Numeral.{decimal_in, is_decimal}
+use Rattle.numerals.proofs.NumeralLemmas.{digits_value-lt}
 
 pub power_some : (n : ℕ) → 0 < 10 ^ n
 power_some n = omega (arith, one-le-pow n 10 (omega arith))

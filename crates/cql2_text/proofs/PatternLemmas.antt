@@ -69,18 +69,6 @@ view folding _ _ _ (ordinary byte rest is plain) =
     record { byte = byte; after = rest; is = record { spelled = refl; is_one = is }; means = inr (inr (inr (plain, refl, refl))) }
 
 module _ (folding : Folding) (byte : ℕ) (after rest : List ℕ) (part : PatternPart) where
-  means-many : HasMeaning folding byte after part rest → byte ≡ 37 → (part ≡ Many) × (after_percents after ≡ rest)
-  means-many (inl means) is = (means.1, means.2)
-  means-many (inr (inl means)) is = absurd (omega (arith, means.0))
-  means-many (inr (inr (inl means))) is = let e : byte ≡ 92 = means.0 in absurd (omega arith)
-  means-many (inr (inr (inr means))) is = absurd (grind (arith, nat_tests))
-
-  means-one : HasMeaning folding byte after part rest → byte ≡ 95 → (part ≡ One) × (after ≡ rest)
-  means-one (inl means) is = absurd (omega (arith, means.0))
-  means-one (inr (inl means)) is = (means.1, means.2)
-  means-one (inr (inr (inl means))) is = let e : byte ≡ 92 = means.0 in absurd (omega arith)
-  means-one (inr (inr (inr means))) is = absurd (grind (arith, nat_tests))
-
   means-escaped : HasMeaning folding byte after part rest → byte ≡ 92
       → (following : ℕ) × IsCharacter after following rest × (part ≡ character_pattern folding following)
   means-escaped (inl means) is = absurd (omega (arith, means.0))
@@ -96,12 +84,6 @@ module _ (folding : Folding) (byte : ℕ) (after rest : List ℕ) (part : Patter
   means-ordinary (inr (inr (inr means))) plain = (means.1, means.2)
 
 module _ {folding : Folding} {text rest : List ℕ} {part : PatternPart} (v : PartView folding text part rest) where
-  pub is-many : v.byte ≡ 37 → (part ≡ Many) × (after_percents v.after ≡ rest)
-  is-many is = means-many folding v.byte v.after rest part v.means is
-
-  pub is-one : v.byte ≡ 95 → (part ≡ One) × (v.after ≡ rest)
-  is-one is = means-one folding v.byte v.after rest part v.means is
-
   pub is-escaped : v.byte ≡ 92 → (following : ℕ) × IsCharacter v.after following rest × (part ≡ character_pattern folding following)
   is-escaped is = means-escaped folding v.byte v.after rest part v.means is
 

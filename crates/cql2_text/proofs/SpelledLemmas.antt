@@ -108,11 +108,6 @@ no-subject (subject.Text c) k words middle no_casei no_accenti is = cc
 no-subject (subject.Folded folding c) k words middle no_casei no_accenti is =
     let none = none-opens (λ w e. no_casei (cc)) (λ w e. no_accenti (cc)) is.opened.opens in omega (arith, none.1, is.opened.some)
 
-no-open : (s : CharacterExpression) (words middle : List Token) → IsSubject s (Open ∷ words) middle → ⊥
-no-open (subject.Text c) words middle is = cc
-no-open (subject.Folded folding c) words middle is =
-    let none = none-opens (λ w e. cc) (λ w e. cc) is.opened.opens in omega (arith, none.1, is.opened.some)
-
 module _ {A : Type 0} where
   no-keyword : (k : AKeyword) (words rest : List Token) (made : Filter A) → k ≢ word.Casei → k ≢ word.Accenti
       → SpellsRelation (Keyword k ∷ words) rest made → ⊥

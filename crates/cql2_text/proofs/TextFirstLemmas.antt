@@ -1,17 +1,15 @@
 -- What is spelled after a string literal if the first tokens are known.
-use Rattle.std.proofs.Common.{◌≡◌, ◌≤◌, ℕ, List, ◌∷◌, refl, arith}
+use Rattle.std.proofs.Common.{◌≡◌, ◌≤◌, ℕ, List, ◌∷◌, refl}
 use Rattle.cql2.specs.declared.column.TextColumn.{TextColumn}
 use Rattle.cql2.specs.declared.filter.Comparison.{Comparison}
 use Rattle.cql2.specs.declared.filter.Comparison.TheVariants.{Equal}
 use Rattle.cql2.specs.declared.filter.Filter.{Filter}
 use Rattle.cql2.specs.declared.pattern.Folding.{Folding}
-use Rattle.cql2_text.specs.Clause.{Opens, closed, inside, nothing}
+use Rattle.cql2_text.specs.Clause.{Opens}
 use Rattle.cql2_text.specs.Connective.{IsNot}
-use Rattle.cql2_text.specs.Predicate.{IsSubject, IsTextColumn, SpellsExchangedComparison, SpellsList, SpellsOfText, SpellsTextAmong}
+use Rattle.cql2_text.specs.Predicate.{IsTextColumn, SpellsExchangedComparison, SpellsList, SpellsOfText, SpellsTextAmong}
 use Rattle.cql2_text.specs.Predicate.{text_among, text_compared, text_in_list, text_not_among}
 use Rattle.cql2_text.specs.ReadNumber.{IsNotFirst}
-use Rattle.cql2_text.specs.declared.predicate.CharacterExpression.{CharacterExpression}
-use Rattle.cql2_text.specs.declared.predicate.CharacterExpression.TheVariants as subject
 use Rattle.cql2_tokens.specs.declared.token.Keyword.TheVariants as word
 use Rattle.cql2_tokens.specs.declared.token.Token.{Token}
 use Rattle.cql2_tokens.specs.declared.token.Token.TheVariants.{Close, Compared, Keyword, Open}
@@ -51,18 +49,3 @@ pub record OpensColumn (words : List Token) : Type 0 where
   pub opens : Opens depth folding words inner
   pub few : depth ≤ 64
   pub named : IsTextColumn c inner rest
-
-pub subject-opens : (s : CharacterExpression) (words rest : List Token) → IsSubject s words rest → OpensColumn words
-subject-opens (subject.Text c) words rest is =
-    record { depth = 0; folding = nothing; inner = words; c = c; rest = rest; opens = inside words; few = omega arith; named = is }
-subject-opens (subject.Folded folding c) words rest is =
-    record {
-      depth = is.depth;
-      folding = folding;
-      inner = is.inner;
-      c = c;
-      rest = closed is.depth rest;
-      opens = is.opened.opens;
-      few = is.opened.few;
-      named = is.inside;
-    }

@@ -3,7 +3,7 @@ use Rattle.std.specs.Prelude.{ℕ, ℤ, pos, neg_ℤ, ◌+◌, ◌-◌, ◌*◌,
 use Rattle.std.specs.Prelude.{List, [], ◌∷◌, length, take, drop}
 use Rattle.std.specs.Prelude.{Result, Ok, Err}
 use Rattle.std.specs.List.{list_all}
-use Rattle.decimal.specs.Numeral.{decimal_in}
+use Rattle.numerals.specs.Numeral.{decimal_in}
 use Rattle.tl_segments.specs.declared.limits.TheConstants.{MAX_NAMES}
 use Rattle.cql2_text.specs.declared.fault.FilterFaultKind.{FilterFaultKind}
 use Rattle.cql2_text.specs.declared.fault.FilterFaultKind.TheVariants.{WrongType, NumberRange}

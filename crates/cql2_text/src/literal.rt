@@ -6,7 +6,7 @@
 //! Any other numeral that isn't exact in its unit, or is too large for 64 bits, is refused, so no comparison is of a rounded number.
 ghost use Rattle.std.specs.Prelude.{◌≡◌, ◌≤◌, ◌<◌, ◌^◌, ◌-◌, ◌*◌, Ok, Err, unsigned_abs, take, drop, IfOk, IfSome, MatchResult};
 ghost use Rattle.std.specs.List.{list_all};
-ghost use Rattle.decimal.specs.Numeral.{decimal_in};
+ghost use Rattle.numerals.specs.Numeral.{decimal_in};
 ghost use Rattle.cql2_text.specs.Number.{number_of, house_number_of, name_limit_of, count_of, signed_number, whole_amount, degrees_amount, parts_of};
 ghost use Rattle.cql2_text.specs.Number.{coordinate_of, is_half, is_more_than_half, is_zero, nearest, rounded_amount};
 
@@ -14,9 +14,10 @@ use crate::fault::FilterFaultKind;
 use crate::unit::Unit;
 use cql2::{HouseNumber, Literal, NameLimit};
 use cql2_tokens::Numeral;
-use decimal::decimal_value;
+use numerals::decimal_value;
 use tl_segments::MAX_NAMES;
 
+// So each stays below 2^62, the bound of expressions.
 /// The maximum number of digits in a whole number.
 const MAX_LITERAL_DIGITS: usize = 18;
 /// The maximum number of digits in a house number.
@@ -25,6 +26,7 @@ const MAX_HOUSE_NUMBER_DIGITS: usize = 11;
 const MAX_DECIMALS: usize = 6;
 /// The maximum number of decimals in a bound of a box, which is in femtodegrees.
 const MAX_BOUND_DECIMALS: usize = 15;
+// A coordinate of a record has nine digits at most, six of them decimals.
 /// The bound that a coordinate's degrees are below.
 const DEGREES: u64 = 1000;
 /// The same in millionths of a degree.

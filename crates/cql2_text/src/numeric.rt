@@ -160,9 +160,11 @@ fn compare<'a, A: Allocator + Copy>(
     ensures reads { (after rest : List Token) (made : Filter A) → SpellsCompared start.now after comparison words.now rest made
         → IsRead result rest made }
 {
+    // Both sides, as the first column may be on the second one.
     let (first_column, _after) = scan(start);
     let (second_column, _after) = scan(words);
     let unit = Unit::of(or_else(first_column, second_column));
+    // Read again for each comparison, as the unit may differ.
     let (first, _after) = expression(alloc, unit, start)?;
     let (second, rest) = expression(alloc, unit, words)?;
     Ok((comparison_of(first, comparison, second), rest))

@@ -1,4 +1,6 @@
 //! Parsing tokens into a filter.
+//!
+//! Chains of AND and OR lean to the left and are read by loops, so only parentheses lead deeper.
 ghost use Rattle.std.specs.Prelude.{◌≡◌, ◌<◌, [], true, List, length, IfOk, Err, MatchResult};
 ghost use Rattle.cql2.specs.declared.filter.Filter.{Filter};
 ghost use Rattle.cql2_text.specs.Content.{content};

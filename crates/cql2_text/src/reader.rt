@@ -15,6 +15,7 @@ use cql2::Filter;
 use cql2_tokens::Tokens;
 use std::alloc::Allocator;
 
+// More than the longest filters whose programs fit. So 32 bits suffice for lines and columns.
 /// The maximum number of bytes in a filter's text.
 pub const MAX_TEXT_LENGTH: usize = 1_048_576;
 
@@ -57,6 +58,7 @@ fn read_utf8<A: Allocator + Copy>(alloc: A, text: &[u8]) -> Result<Filter<A>, Fi
     let tokens = Tokens::of(alloc, text)?;
     match filter(alloc, &tokens.tokens) {
         Ok(filter) => {
+            // A fault in the tokens comes first: what begins no token is at fault only after a filter.
             if tokens.rest.is_empty() {
                 return Ok(filter);
             }

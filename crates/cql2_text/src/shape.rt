@@ -18,6 +18,7 @@ use cql2::{Bound, Bounds, Literal, Polygon, Polygons, Ring, Shape};
 use cql2_tokens::{Keyword, ShapeTag, Token};
 use std::alloc::Allocator;
 
+// An edge of a polygon takes 53 words, so such a shape still fits in a program.
 /// The maximum number of vertices in a shape.
 pub const MAX_VERTICES: usize = 1000;
 
@@ -131,6 +132,7 @@ fn bound_of(number: Literal) -> Bound
     ensures { femtodegrees result ≡ number.number }
 {
     Bound {
+        // Rounded down also below zero, so the rest isn't negative.
         millionths: number.number.div_euclid(MILLIONTH),
         rest: number.number.rem_euclid(MILLIONTH) as u32,
     }

@@ -12,6 +12,7 @@ use cql2::{Expression, Literal, NumberColumn, NumericColumn, Operator};
 use cql2_tokens::Token;
 use std::alloc::Allocator;
 
+// So the difference of two values fits in 64 bits: nothing overflows, whatever the columns hold, and no machine computes another result.
 /// The bound that each value of an expression stays below.
 const BOUND: u64 = 1 << 62;
 /// The maximum number of operators in an expression.
@@ -152,6 +153,7 @@ fn column_bound(column: NumericColumn) -> u64
     ensures value { result ≡ column_bound column }
     ensures small { result < 2 ^ 62 }
 {
+    // By the widths of fields, since a filter is compiled before any record is read.
     match column {
         NumericColumn::Number(field) => nines(number_width(field)),
         NumericColumn::Coordinate(_place) => nines(9),

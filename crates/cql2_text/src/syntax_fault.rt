@@ -47,6 +47,7 @@ impl<T: Drop> From<AllocFailed<T>> for LiteralFault {
 /// A fault in a sequence of tokens.
 #[derive(Clone, Copy)]
 pub(crate) enum SyntaxFault {
+    // Tokens left and not a position, as the parser sees no text. The reader computes the position of the one fault that is reported.
     At {
         /// The number of tokens left, including the one at fault.
         left: usize,

@@ -1,4 +1,12 @@
 //! Splitting a text into tokens.
+//!
+//! A filter's text is split completely before it is parsed. The parser can look ahead as far as it likes (a parenthesis may begin a filter or a
+//! number, which only the token after the closing one tells), and reads a number again for each comparison in a list. Both are cheap over tokens. A
+//! sign is never part of a number here, since `a -1` subtracts. Whether a name is a keyword, a column or unknown is settled here, so the grammar
+//! compares no texts.
+//!
+//! Always: tokens borrow from the text, and `starts` has the offset of each, from which alone lines and columns are computed. A text that has a byte
+//! which begins no token isn't refused here: its tokens end there, because a fault of the grammar before it comes first.
 ghost use Rattle.std.specs.Prelude.{◌≡◌, ◌<◌, ◌++◌, ◌∷◌, [], true, false, not, ◌==◌, ℕ, List, length, IfOk, IfSome, IfNone, MatchOption};
 ghost use Rattle.std.specs.Char.{is_ascii_digit};
 ghost use Rattle.std.specs.List.{position};
@@ -39,6 +47,7 @@ impl<'a, A: Allocator + Copy> Tokens<'a, A> {
                 continue;
             }
             let Some((token, after)) = first_token(rest) else {
+                // Not refused here: a fault in the tokens before it comes first.
                 break;
             };
             starts.push(text.len() - rest.len())?;

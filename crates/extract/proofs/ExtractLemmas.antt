@@ -27,7 +27,7 @@ use Rattle.extract.specs.ExtractFault.{of_load}
 use Rattle.extract.specs.Formatting.{IsOfRecordAlone}
 use Rattle.extract.specs.Extracting.{AreUnfailed, ExtractsAlike, HasWrittenIn, IsOutcomeIn, IsOutcomeOfCodeIn, ServesExtract, before_rt1, in_rt1}
 use Rattle.bpf_program.specs.Program.{IsSafeProgram}
-use Rattle.tl_segments.specs.County.{CountyReaders}
+use Rattle.tl_segments.specs.County.{SegmentReaders}
 use Rattle.extract.specs.Rows.{WritesIfChosen}
 use Rattle.bpf_program.specs.declared.program.ProgramFault.{ProgramFault}
 use Rattle.extract.specs.declared.fault.ExtractFault.{ExtractFault}
@@ -101,7 +101,7 @@ joined_outcome text_of code load_fault.Memory rt1 {old} {new} out is =
 joined_outcome text_of code fault rt1 out is = before_rt1 (λ e. cc) is refl refl
 
 -- the outcome of a program is that of its code
-pub program_outcome : (text_of : TextFormat) {program : List ℕ} {code : List Insn} (result : Result ℕ ExtractFault) (old new : CountyReaders)
+pub program_outcome : (text_of : TextFormat) {program : List ℕ} {code : List Insn} (result : Result ℕ ExtractFault) (old new : SegmentReaders)
     (out out' : Writer) → IsSafeProgram program code → IsOutcomeOfCodeIn text_of code result old new out out'
     → IsOutcomeIn text_of program result old new out out'
 program_outcome text_of {code = code} (Ok count) old new out out' safe is = (code, safe, is)
@@ -111,7 +111,7 @@ program_outcome text_of {code = code} (Err (Write fault)) old new out out' safe 
 program_outcome text_of {code = code} (Err Memory) old new out out' safe is = inr (code, safe, is)
 
 -- accepted code isn't refused
-pub never_program : (text_of : TextFormat) (code : List Insn) (result : Result ℕ ExtractFault) (old new : CountyReaders) (out out' : Writer)
+pub never_program : (text_of : TextFormat) (code : List Insn) (result : Result ℕ ExtractFault) (old new : SegmentReaders) (out out' : Writer)
     (fault : ProgramFault) → IsOutcomeOfCodeIn text_of code result old new out out' → result ≢ Err (Program fault)
 never_program text_of code result old new out out' fault is = λ same.
     subst (λ (result : Result ℕ ExtractFault). IsOutcomeOfCodeIn text_of code result old new out out') same is
@@ -180,11 +180,11 @@ module _ {A : Type 0} {text_of : TextFormat} {index : Index A} {code : List Insn
         → IsOutcomeOfCodeIn text_of code (Ok count) (record { rt1 = rt1; joined = old }) (record { rt1 = next.after; joined = new }) out between
     unfolding has_written
     end_outcome next = record {
-      county = record { segments = segments_of serves.joined so_far.lines };
+      segments = segments_of serves.joined so_far.lines;
       loads = record {
         joined = serves.joined;
         lines = so_far.lines;
-        segments = refl;
+        are_segments = refl;
         reads_joined = serves.reads;
         rt1 = all_read so_far.read (record { number = next.number; bytes = next.is.0.0 }) next.after next.is.0.1;
       };

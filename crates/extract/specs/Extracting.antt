@@ -5,7 +5,7 @@ use Rattle.std.specs.Io.KnownBytes.{Appends}
 use Rattle.counted_io.specs.ReaderWriter.{Writer}
 use Rattle.counted_io.specs.declared.writing.WriteFault.{WriteFault}
 use Rattle.tl_records.specs.declared.fault.LineFault.{LineFault}
-use Rattle.tl_segments.specs.County.{CountyParts, CountyReaders, LoadsCounty}
+use Rattle.tl_segments.specs.County.{LoadsSegments, SegmentReaders}
 use Rattle.tl_segments.specs.Indexing.{IsIndexOf}
 use Rattle.tl_segments.specs.Joining.{JoinedLines, segment_of, segments_of}
 use Rattle.tl_segments.specs.Loading.{IsFirstFault, IsJoinedFault, Readers, ReadsJoined, ReadsLines}
@@ -26,11 +26,11 @@ use Rattle.bpf_program.specs.declared.program.ProgramFault.TheVariants as progra
 
 -- The county's files were all read to their ends. Exactly the texts of the segments that the code selects were appended to the writer, in file order
 -- and with their scores, and `count` is their number. Nothing failed.
-pub record IsExtractedIn (text_of : TextFormat) (code : List Insn) (count : ℕ) (old new : CountyReaders) (out out' : Writer) : Type 0 where
-  pub county : CountyParts
-  pub loads : LoadsCounty county old new
+pub record IsExtractedIn (text_of : TextFormat) (code : List Insn) (count : ℕ) (old new : SegmentReaders) (out out' : Writer) : Type 0 where
+  pub segments : List SegmentParts
+  pub loads : LoadsSegments segments old new
   pub text : List ℕ
-  pub is_extract : IsExtractIn text_of code county.segments text count
+  pub is_extract : IsExtractIn text_of code segments text count
   pub written : Appends out.held out'.held text
   pub counts : out'.counts ≡ out.counts
 
@@ -80,7 +80,7 @@ HasWrittenIn text_of code joined lines out out' = WritesSelected text_of code (s
 
 -- A file is refused because of the first fault in the county's files, in the order in which they are read. If the file is of type 4, 5 or 6, nothing
 -- was read of type 1 and nothing was written. If it is of type 1, the complete extract of the good lines before the fault was written.
-pub data IsLoadRefusalIn (text_of : TextFormat) (code : List Insn) (fault : LoadFault) (old new : CountyReaders) (out out' : Writer) : Type 0 where
+pub data IsLoadRefusalIn (text_of : TextFormat) (code : List Insn) (fault : LoadFault) (old new : SegmentReaders) (out out' : Writer) : Type 0 where
   before_rt1 : fault ≢ load_fault.Memory → IsJoinedFault fault old.joined new.joined → new.rt1 ≡ old.rt1 → out' ≡ out
       → IsLoadRefusalIn text_of code fault old new out out'
   in_rt1 : (joined : JoinedLines) (lines : List (List ℕ)) (line : LineFault) → fault ≡ load_fault.Line Rt1 line
@@ -89,7 +89,7 @@ pub data IsLoadRefusalIn (text_of : TextFormat) (code : List Insn) (fault : Load
 
 -- A write failed. The complete extract of some good lines was written, then a beginning of the text of the next line, which is also good. Nothing was
 -- read after that line, and no read failed.
-pub record IsWriteRefusalIn (text_of : TextFormat) (code : List Insn) (fault : WriteFault) (old new : CountyReaders) (out out' : Writer) : Type 0 where
+pub record IsWriteRefusalIn (text_of : TextFormat) (code : List Insn) (fault : WriteFault) (old new : SegmentReaders) (out out' : Writer) : Type 0 where
   pub joined : JoinedLines
   pub reads_joined : ReadsJoined joined old.joined new.joined
   pub lines : List (List ℕ)
@@ -101,7 +101,7 @@ pub record IsWriteRefusalIn (text_of : TextFormat) (code : List Insn) (fault : W
 
 -- Memory runs out for the segment of a good type 1 line that has something joined to it. The complete extract of the good lines before it was
 -- written, and nothing was read after it.
-pub record StopsAtLineIn (text_of : TextFormat) (code : List Insn) (old new : CountyReaders) (out out' : Writer) : Type 0 where
+pub record StopsAtLineIn (text_of : TextFormat) (code : List Insn) (old new : SegmentReaders) (out out' : Writer) : Type 0 where
   pub joined : JoinedLines
   pub reads_joined : ReadsJoined joined old.joined new.joined
   pub lines : List (List ℕ)
@@ -111,20 +111,20 @@ pub record StopsAtLineIn (text_of : TextFormat) (code : List Insn) (old new : Co
   pub before : HasWrittenIn text_of code joined lines out out'
 
 -- no read of any of the files failed
-pub record AreUnfailed (old new : CountyReaders) : Type 0 where
+pub record AreUnfailed (old new : SegmentReaders) : Type 0 where
   pub rt1 : new.rt1.failed ≡ old.rt1.failed
   pub rt4 : new.joined.rt4.failed ≡ old.joined.rt4.failed
   pub rt5 : new.joined.rt5.failed ≡ old.joined.rt5.failed
   pub rt6 : new.joined.rt6.failed ≡ old.joined.rt6.failed
 
 -- Memory runs out. Either nothing was read of type 1 and nothing was written, or the extract stops at a type 1 line. No read or write failed.
-pub record IsMemoryRefusalIn (text_of : TextFormat) (code : List Insn) (old new : CountyReaders) (out out' : Writer) : Type 0 where
+pub record IsMemoryRefusalIn (text_of : TextFormat) (code : List Insn) (old new : SegmentReaders) (out out' : Writer) : Type 0 where
   pub written : (new.rt1 ≡ old.rt1) × (out' ≡ out) ⊎ StopsAtLineIn text_of code old new out out'
   pub counts : out'.counts ≡ out.counts
   pub reads : AreUnfailed old new
 
 -- the effect of an extract by this code on the readers of the county's files and on the writer, by outcome
-abbrev pub IsOutcomeOfCodeIn : TextFormat → List Insn → Result ℕ ExtractFault → CountyReaders → CountyReaders → Writer → Writer → Type 0
+abbrev pub IsOutcomeOfCodeIn : TextFormat → List Insn → Result ℕ ExtractFault → SegmentReaders → SegmentReaders → Writer → Writer → Type 0
 IsOutcomeOfCodeIn text_of code (Ok count) old new out out' = IsExtractedIn text_of code count old new out out'
 IsOutcomeOfCodeIn text_of code (Err (Program fault)) old new out out' = ⊥
 IsOutcomeOfCodeIn text_of code (Err (Load fault)) old new out out' = IsLoadRefusalIn text_of code fault old new out out'
@@ -132,7 +132,7 @@ IsOutcomeOfCodeIn text_of code (Err (Write fault)) old new out out' = IsWriteRef
 IsOutcomeOfCodeIn text_of code (Err Memory) old new out out' = IsMemoryRefusalIn text_of code old new out out'
 
 -- The program is refused, and nothing was read or written.
-pub record IsProgramRefusal (program : List ℕ) (fault : ProgramFault) (old new : CountyReaders) (out out' : Writer) : Type 0 where
+pub record IsProgramRefusal (program : List ℕ) (fault : ProgramFault) (old new : SegmentReaders) (out out' : Writer) : Type 0 where
   pub first : IsProgramFault program fault
   pub has_number : fault ≢ program_fault.Memory
   pub unread : new ≡ old
@@ -143,7 +143,7 @@ abbrev pub HasSafeCode : List ℕ → (List Insn → Type 0) → Type 0
 HasSafeCode program Holds = (code : List Insn) × IsSafeProgram program code × Holds code
 
 -- the effect of an extract by a program: it is refused, or memory runs out before anything is read, or the extract is that of its code
-abbrev pub IsOutcomeIn : TextFormat → List ℕ → Result ℕ ExtractFault → CountyReaders → CountyReaders → Writer → Writer → Type 0
+abbrev pub IsOutcomeIn : TextFormat → List ℕ → Result ℕ ExtractFault → SegmentReaders → SegmentReaders → Writer → Writer → Type 0
 IsOutcomeIn text_of program (Err (Program fault)) old new out out' = IsProgramRefusal program fault old new out out'
 IsOutcomeIn text_of program (Err Memory) old new out out' =
     ((new ≡ old) × (out' ≡ out)) ⊎ HasSafeCode program (λ code. IsMemoryRefusalIn text_of code old new out out')
@@ -152,8 +152,8 @@ IsOutcomeIn text_of program result old new out out' =
 
 -- The extract in rows
 
-abbrev pub IsExtracted : List Insn → ℕ → CountyReaders → CountyReaders → Writer → Writer → Type 0
+abbrev pub IsExtracted : List Insn → ℕ → SegmentReaders → SegmentReaders → Writer → Writer → Type 0
 IsExtracted code rows old new out out' = IsExtractedIn row_of code rows old new out out'
 
-abbrev pub IsOutcome : List ℕ → Result ℕ ExtractFault → CountyReaders → CountyReaders → Writer → Writer → Type 0
+abbrev pub IsOutcome : List ℕ → Result ℕ ExtractFault → SegmentReaders → SegmentReaders → Writer → Writer → Type 0
 IsOutcome program result old new out out' = IsOutcomeIn row_of program result old new out out'

@@ -2,10 +2,7 @@
 ghost use Rattle.std.specs.Prelude.{◌≡◌};
 ghost use Rattle.extract.specs.ExtractFault.{of_program, of_load};
 ghost use Rattle.extract.specs.declared.fault.ExtractFault.TheVariants.{Write};
-ghost use Rattle.extract.specs.ExtractFault as extract_fault;
-ghost use Rattle.refusals.specs.Refusal.{line as refusal_line};
 
-use arrayvec::ArrayString;
 use bpf_program::ProgramFault;
 use counted_io::WriteFault;
 use refusals::{Fault, Refusal};
@@ -52,15 +49,6 @@ impl From<WriteFault> for ExtractFault {
 
     fn from(fault: WriteFault) -> ExtractFault {
         ExtractFault::Write(fault)
-    }
-}
-
-impl ExtractFault {
-    /// Returns the refusal's line of text, such as `refused 1 rt1 line 2 WrongLength`, without a line terminator. It doesn't allocate.
-    pub fn line(&self) -> ArrayString<64>
-        ensures { result.bytes ≡ refusal_line (extract_fault.refusal self.now) }
-    {
-        Fault::line(self)
     }
 }
 

@@ -1,6 +1,5 @@
 //! Formats of extracts.
 ghost use Rattle.std.specs.Prelude.{◌≡◌, IsTrue};
-ghost use Rattle.counted_io.specs.ReaderWriter.{writer};
 ghost use Rattle.counted_io.specs.Writing.{WritesText};
 ghost use Rattle.bpf_meaning.specs.Extract.{TextFormat};
 ghost use Rattle.extract.specs.Formatting.{IsOfRecordAlone};
@@ -9,6 +8,8 @@ use counted_io::{CountedWrite, WriteFault};
 use std::alloc::Allocator;
 use tl_segments::Segment;
 
+// A trait with a ghost text per segment, so that one engine, with one proof for each fault, serves every format. Translating rows instead would lack
+// names and ranges.
 /// A format of extracts: the text that is written for a selected segment. It may keep a buffer for the texts.
 pub trait Format {
     // The text of a segment with a score.
@@ -25,8 +26,7 @@ pub trait Format {
         segment: &Segment<A>,
         out: &mut W,
     ) -> Result<(), WriteFault>
-        ensures written { WritesText (text_of self.old score segment.now) result
-            (writer W.contents W.counts out.old) (writer W.contents W.counts out.new) }
+        ensures written { WritesText (text_of self.old score segment.now) result (W.writer out.old) (W.writer out.new) }
         // It writes later segments in the same format.
         ensures same { text_of self.new ≡ text_of self.old };
 }

@@ -15,6 +15,7 @@ pub const MAX_ROW_LENGTH: usize = 250;
 /// The format of rows, with the row of a segment, which the next row overwrites. At first it is empty.
 #[derive(Drop)]
 pub struct RowBuffer {
+    // Of a fixed size, so that no row allocates.
     text: ArrayVec<u8, MAX_ROW_LENGTH>,
 }
 
@@ -46,6 +47,7 @@ impl RowBuffer {
     pub(crate) fn set<A: Allocator>(&mut self, score: u64, segment: &Segment<A>)
         ensures { self.new.text.items ≡ row_of score segment.now }
     {
+        // One digit, as for a program that sets no score, needs no formatting.
         if score < 10 {
             return self.set_digits(&[b'0' + score as u8], segment);
         }
@@ -102,6 +104,7 @@ impl Format for RowBuffer {
         out: &mut W,
     ) -> Result<(), WriteFault> {
         self.set(score, segment);
+        // One write per row, not one for each of its parts.
         write_text(out, self.as_bytes())
     }
 }

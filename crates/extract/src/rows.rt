@@ -1,6 +1,5 @@
 //! The rows and texts of selected segments, and how they are written.
 ghost use Rattle.std.specs.Prelude.{◌≡◌};
-ghost use Rattle.counted_io.specs.ReaderWriter.{writer};
 ghost use Rattle.counted_io.specs.Writing.{WritesText};
 ghost use Rattle.bpf_meaning.specs.Extract.{row_of};
 ghost use Rattle.extract.specs.Rows.{WritesIfChosen};
@@ -15,6 +14,7 @@ use std::alloc::Allocator;
 use tl_segments::Segment;
 
 /// Returns the row of a segment with a score: the score in decimal, a tab, the type 1 record, a line feed.
+/// No caller in this program but [`row`]: part of the library's fixed interface.
 pub fn row_text<A: Allocator>(score: u64, segment: &Segment<A>) -> ArrayVec<u8, MAX_ROW_LENGTH>
     ensures { result.items ≡ row_of score segment.now }
 {
@@ -24,13 +24,13 @@ pub fn row_text<A: Allocator>(score: u64, segment: &Segment<A>) -> ArrayVec<u8, 
 }
 
 /// Writes the row of a segment with a score. Nothing is retried, and nothing is flushed.
+/// No caller in this program: part of the library's fixed interface.
 pub fn row<A: Allocator, W: CountedWrite>(
     score: u64,
     segment: &Segment<A>,
     out: &mut W,
 ) -> Result<(), WriteFault>
-    ensures { WritesText (row_of score segment.now) result
-        (writer W.contents W.counts out.old) (writer W.contents W.counts out.new) }
+    ensures { WritesText (row_of score segment.now) result (W.writer out.old) (W.writer out.new) }
 {
     write_text(out, row_text(score, segment).as_slice())
 }
@@ -44,8 +44,7 @@ pub(crate) fn write_if_chosen<A: Allocator, B: Allocator, F: Format, W: CountedW
     format: &mut F,
     out: &mut W,
 ) -> Result<u64, WriteFault>
-    ensures written { WritesIfChosen (F.text_of format.old) verified.now.code segment.now result
-        (writer W.contents W.counts out.old) (writer W.contents W.counts out.new) }
+    ensures written { WritesIfChosen (F.text_of format.old) verified.now.code segment.now result (W.writer out.old) (W.writer out.new) }
     ensures same { F.text_of format.new ≡ F.text_of format.old }
 {
     let answer = run_in(bare, verified, segment);

@@ -50,6 +50,7 @@ fn is_extract(alloc: Global, program: &[u8], files: &Files, text: &[u8]) -> bool
             rt5: Buffered::new(files.rt5.as_slice()),
             rt6: Buffered::new(files.rt6.as_slice()),
         },
+        shapes: None,
     };
     let mut out = Counting::new(Vec::new(alloc));
     let count = extract_verified_in(alloc, &verified, &mut county, &mut NameCount, &mut out);
@@ -60,6 +61,7 @@ fn is_extract(alloc: Global, program: &[u8], files: &Files, text: &[u8]) -> bool
             rt5: _rt5,
             rt6: _rt6,
         },
+        shapes: _shapes,
     } = county;
     count == Ok(text.len() as u64 / 2) && out.get_ref().as_slice() == text
 }

@@ -7,7 +7,8 @@ use fixtures::{
     FaultPlan, Refusing, Table, TableFault, Writer, bytes, cells, error_kind, is_refusal, program,
     reader, taken, writer,
 };
-use layers::{Columns, Geometry, Layer, LayerFiles, TableOptions, write_county};
+use layers::{Columns, Geometry, Layer, TableOptions, write_county};
+use refusals::Fault;
 use std::alloc::{Allocator, Global};
 use std::io::ErrorKind;
 use std::process::Abort;
@@ -83,33 +84,29 @@ impl<'a> Case<'a> {
     ) -> Result<u64, ExtractFault> {
         self.layer.write_header(out)?;
         let sound = FaultPlan::sound();
-        let rt2 = if self.layer.has_shapes() {
+        let shapes = if self.layer.has_shapes() {
             Some(reader(self.rt2.as_slice(), plan))
         } else {
             None
         };
-        let mut files = LayerFiles {
-            county: CountyFiles {
-                rt1: reader(self.rt1.as_slice(), sound),
-                joined: JoinedFiles {
-                    rt4: reader(b"", sound),
-                    rt5: reader(b"", sound),
-                    rt6: reader(b"", sound),
-                },
+        let mut files = CountyFiles {
+            rt1: reader(self.rt1.as_slice(), sound),
+            joined: JoinedFiles {
+                rt4: reader(b"", sound),
+                rt5: reader(b"", sound),
+                rt6: reader(b"", sound),
             },
-            rt2,
+            shapes,
         };
         let written = write_county(alloc, verified, &mut files, &self.layer, out);
-        let LayerFiles {
-            county: CountyFiles {
-                rt1: _rt1,
-                joined: JoinedFiles {
-                    rt4: _rt4,
-                    rt5: _rt5,
-                    rt6: _rt6,
-                },
+        let CountyFiles {
+            rt1: _rt1,
+            joined: JoinedFiles {
+                rt4: _rt4,
+                rt5: _rt5,
+                rt6: _rt6,
             },
-            rt2: _rt2,
+            shapes: _shapes,
         } = files;
         written
     }

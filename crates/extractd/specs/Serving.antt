@@ -1,5 +1,5 @@
 -- Serving counties at an address.
-use Rattle.std.specs.Prelude.{◌≡◌, ◌≢◌, ℕ, List, Option, ⊤}
+use Rattle.std.specs.Prelude.{◌≡◌, ◌≢◌, ℕ, false, List, Option, ⊤}
 use Rattle.std.specs.declared.net.socket_addr.SocketAddr.{SocketAddr}
 use Rattle.counted_io.specs.ReaderWriter.{Writer}
 use Rattle.commands.specs.Counties.{AreCountiesOf, HaveRefusedCounty, IsLoadFailure, IsRefusedFileOfOne}
@@ -62,7 +62,7 @@ pub record ServesLoaded {R N L C A W T : Type 0} (rules : ServeRules R N L C A W
   pub start : Option ℕ
   pub state : StateParts
   pub without_jobs : state ≡ new_state served.codes (counties_of state) start
-  pub loaded : AreCountiesOf served.known served.folder served.codes (counties_of state)
+  pub loaded : AreCountiesOf false served.known served.folder served.codes (counties_of state)
   pub logged : Logged A W T
   pub over_state : logged.state ≡ state
   pub reads_start : ReadsSecond rules.dates start rules.timer logged.timer
@@ -71,6 +71,6 @@ pub record ServesLoaded {R N L C A W T : Type 0} (rules : ServeRules R N L C A W
 -- how serving ends: a county can't be loaded, and then the address isn't bound; or the counties were served until a fault
 abbrev pub ServesCounties : {R N L C A W T : Type 0} → ServeRules R N L C A W T → Served → ServeFault → Host N → Host N → Type 0
 ServesCounties rules served (Counties failure) old new =
-    IsLoadFailure rules.opens (HaveRefusedCounty served.known served.folder served.codes) (IsRefusedFileOfOne served.folder served.codes)
+    IsLoadFailure rules.opens (HaveRefusedCounty false served.known served.folder served.codes) (IsRefusedFileOfOne served.folder served.codes)
     old.disk new.disk failure × (new.outside ≡ old.outside)
 ServesCounties rules served (Listen address fault) old new = (address ≡ served.address) × ServesLoaded rules served fault old.outside new.outside

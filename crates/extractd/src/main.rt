@@ -7,14 +7,13 @@ mod serving;
 ghost use Rattle.std.specs.Prelude.{◌≡◌, ◌⊎◌, IfErr, IfOk};
 ghost use Rattle.std.specs.Process.{exit_status};
 ghost use Rattle.clap.specs.Walk.{texts};
-ghost use Rattle.counted_io.specs.ReaderWriter.{writer};
 ghost use Rattle.command_line.specs.declared.fault.ArgumentsFault.TheVariants.{Memory, NotUtf8};
 ghost use Rattle.extractd.specs.Outcome.{Answers, AnswersToOutput, EndsProcess, EndsSo, ServesIfRequested};
 
 use command_line::{ArgumentsFault, Subcommand, command, read_serve};
 use counted_io::{CountedWrite, Counting};
 use named_files::SystemFiles;
-use progress::{Progress, terminal_start};
+use progress::{ProgressOutput, terminal_start};
 use serving::serve;
 use std::io::{BufWriter, Write};
 use std::process::ExitCode;
@@ -44,8 +43,7 @@ fn run(rt: &HostRuntime) -> ExitCode
 
 /// Reads the arguments after the program's name, carries out what they request, and returns the exit status.
 fn start<E: CountedWrite>(rt: &HostRuntime, errors: &mut E) -> Result<u8, ArgumentsFault<'static>>
-    ensures ok { IfOk result (λ status. EndsSo status
-        (writer E.contents E.counts errors.old) (writer E.contents E.counts errors.new)) }
+    ensures ok { IfOk result (λ status. EndsSo status (E.writer errors.old) (E.writer errors.new)) }
     ensures err { IfErr result (λ fault. ((fault ≡ Memory) ⊎ (fault ≡ NotUtf8)) × (errors.new ≡ errors.old)) }
 {
     let given: Vec<String> = env::args(rt)?.skip(1).collect(rt.alloc())?;
@@ -54,6 +52,7 @@ fn start<E: CountedWrite>(rt: &HostRuntime, errors: &mut E) -> Result<u8, Argume
         .map(|argument| argument.as_str())
         .collect(rt.alloc())?;
     let arguments = arguments.as_slice();
+    // All but `serve` runs `command`, so its contract and tests are about what a user starts.
     match arguments.first().and_then(|name| Subcommand::named(name)) {
         Some(Subcommand::Serve) => Ok(start_server(rt, arguments, errors)),
         subcommand => run_command(rt, subcommand, arguments, errors),
@@ -62,7 +61,7 @@ fn start<E: CountedWrite>(rt: &HostRuntime, errors: &mut E) -> Result<u8, Argume
 
 /// Reads the arguments of `serve`, serves until a fault occurs, and returns the exit status.
 fn start_server<E: CountedWrite>(rt: &HostRuntime, arguments: &[&str], errors: &mut E) -> u8
-    ensures { ServesIfRequested (texts arguments.now) result (writer E.contents E.counts errors.old) (writer E.contents E.counts errors.new) }
+    ensures { ServesIfRequested (texts arguments.now) result (E.writer errors.old) (E.writer errors.new) }
 {
     match read_serve(rt.alloc(), arguments) {
         Ok(options) => serve(rt, &options, errors),
@@ -80,10 +79,10 @@ fn run_command<E: CountedWrite>(
     arguments: &[&str],
     errors: &mut E,
 ) -> Result<u8, ArgumentsFault<'static>>
-    ensures ok { IfOk result (λ status. AnswersToOutput (texts arguments.now) status
-        (writer E.contents E.counts errors.old) (writer E.contents E.counts errors.new)) }
+    ensures ok { IfOk result (λ status. AnswersToOutput (texts arguments.now) status (E.writer errors.old) (E.writer errors.new)) }
     ensures err { IfErr result (λ fault. (fault ≡ Memory) × (errors.new ≡ errors.old)) }
 {
+    // Before the arguments are read, which `command` does.
     let out = BufWriter::with_capacity(rt.alloc(), OUTPUT_BUFFER, io::writer(rt)).map_err(
         |_error| ArgumentsFault::Memory,
     )?;
@@ -93,7 +92,7 @@ fn run_command<E: CountedWrite>(
     };
     Ok(match start {
         Some(start) => {
-            let out = Progress::new(rt, start, out);
+            let out = ProgressOutput::new(rt, start, out);
             command_to(rt, arguments, &mut Counting::new(out), errors)
         }
         None => command_to(rt, arguments, &mut Counting::new(out), errors),
@@ -107,9 +106,7 @@ fn command_to<W: CountedWrite, E: CountedWrite>(
     out: &mut W,
     errors: &mut E,
 ) -> u8
-    ensures answers { Answers (texts arguments.now) result
-        (writer W.contents W.counts out.old) (writer W.contents W.counts out.new)
-        (writer E.contents E.counts errors.old) (writer E.contents E.counts errors.new) }
+    ensures answers { Answers (texts arguments.now) result (W.writer out.old) (W.writer out.new) (E.writer errors.old) (E.writer errors.new) }
     ensures untouched { result ≡ 2 → out.new ≡ out.old }
 {
     command(

@@ -11,7 +11,7 @@ const PERIOD: u64 = 100;
 
 /// An output that shows its line count on standard error. A failed write to standard error changes nothing.
 #[derive(Drop)]
-pub struct Progress<'a, W> {
+pub struct ProgressOutput<'a, W> {
     out: W,
     count: LineCount<'a>,
 }
@@ -24,10 +24,10 @@ struct LineCount<'a> {
     shown: Instant,
 }
 
-impl<'a, W> Progress<'a, W> {
+impl<'a, W> ProgressOutput<'a, W> {
     /// Starts at this moment with no lines.
     pub fn new(rt: &'a HostRuntime, start: Instant, out: W) -> Self {
-        Progress {
+        ProgressOutput {
             out,
             count: LineCount {
                 rt,
@@ -72,7 +72,7 @@ impl LineCount<'_> {
     }
 }
 
-impl<W: Write> Write for Progress<'_, W> {
+impl<W: Write> Write for ProgressOutput<'_, W> {
     ghost contents = { λ progress. W.contents progress.out };
 
     fn write(&mut self, buf: &[u8]) -> io::Result<usize>

@@ -1,13 +1,11 @@
 //! `serve`: serves counties over HTTP.
-ghost use Rattle.std.specs.Prelude.{◌≡◌, ◌≢◌, IfErr, IfOk, map};
+ghost use Rattle.std.specs.Prelude.{◌≡◌, ◌≢◌, false, IfErr, IfOk, map};
 ghost use Rattle.std.specs.declared.alloc.Global.{Global};
 ghost use Rattle.commands.specs.Counties.{AreCountiesOf, HaveRefusedCounty, IsLoadFailure, IsRefusedFileOfOne};
 ghost use Rattle.commands.specs.Failure.{status};
-ghost use Rattle.named_files.specs.Files.{disk};
 ghost use Rattle.http_service.specs.Logged.{ServesLogged, TurnsLogged};
 ghost use Rattle.tcp_server.specs.Tally.{ServesTallied, TurnsTallied};
 ghost use Rattle.wire.specs.State.{counties_of, new_state};
-ghost use Rattle.counted_io.specs.ReaderWriter.{writer};
 ghost use Rattle.extractd.specs.Serving.{EndsServer, ReportsListenFault, ReportsServeFault, ServesCounties, serve_status};
 
 mod listening;
@@ -50,7 +48,7 @@ impl ServeFault<'_> {
 
     /// Reports the fault on one line.
     fn report<E: CountedWrite>(&self, errors: &mut E)
-        ensures { ReportsServeFault self.now (writer E.contents E.counts errors.old) (writer E.contents E.counts errors.new) }
+        ensures { ReportsServeFault self.now (E.writer errors.old) (E.writer errors.new) }
     {
         match self {
             ServeFault::Counties(failure) => failure.report(errors),
@@ -61,7 +59,7 @@ impl ServeFault<'_> {
 
 /// Reports on one line why the server can't listen at the address, or stops.
 fn report_fault<E: CountedWrite>(address: SocketAddr, fault: &ListenFault, errors: &mut E)
-    ensures { ReportsListenFault fault.now (writer E.contents E.counts errors.old) (writer E.contents E.counts errors.new) }
+    ensures { ReportsListenFault fault.now (E.writer errors.old) (E.writer errors.new) }
 {
     match fault {
         ListenFault::Output(error) => Failure::Output(*error).report(errors),
@@ -78,7 +76,7 @@ fn report_fault<E: CountedWrite>(address: SocketAddr, fault: &ListenFault, error
 
 /// Serves the requested counties until a fault occurs, and returns the exit status.
 pub fn serve<E: CountedWrite>(rt: &HostRuntime, options: &Serve<'_>, errors: &mut E) -> u8
-    ensures { EndsServer result (writer E.contents E.counts errors.old) (writer E.contents E.counts errors.new) }
+    ensures { EndsServer result (E.writer errors.old) (E.writer errors.new) }
 {
     let host = LogHost::new(rt, options.log);
     let fault = serve_counties(
@@ -124,7 +122,7 @@ fn serve_counties<
             locates = N.locates;
             accepts = N.Listener.accepts;
             serves = ServesTallied (ServesLogged {A = Global}
-                (record { shows = T.shows; dates = T.dates; writer_of = writer L.contents L.counts }));
+                (record { shows = T.shows; dates = T.dates; writer_of = L.writer }));
             turns = TurnsTallied (TurnsLogged {A = Global} {W = L} {T = T});
           };
         })
@@ -132,19 +130,20 @@ fn serve_counties<
           folder = options.now.«data».now;
           codes = map (λ code. code.now) options.now.codes.items;
           address = options.now.address;
-          known = F.bytes files.old;
+          known = (F.disk files.old).known;
         })
         result
         (record {
-          disk = disk F.bytes F.failed_opens F.failed_reads files.old;
+          disk = F.disk files.old;
           outside = record { network = network.old; held = W.contents out.old };
         })
         (record {
-          disk = disk F.bytes F.failed_opens F.failed_reads files.new;
+          disk = F.disk files.new;
           outside = record { network = network.new; held = W.contents out.new };
         }) }
     ensures status { (serve_status result ≢ 0) × (serve_status result ≢ 2) }
 {
+    // Before the counties are loaded, as the process starts now.
     let start = read_second(&mut timer);
     match load_state(alloc, files, start, options) {
         Ok(state) => ServeFault::Listen {
@@ -170,14 +169,14 @@ fn load_state<'a, F: Files>(
     options: &Serve<'a>,
 ) -> Result<State<Global>, Failure<'a>>
     ensures ok { IfOk result (λ state. (state ≡ new_state (map (λ code. code.now) options.now.codes.items) (counties_of state) start)
-        × AreCountiesOf (F.bytes files.old) options.now.«data».now (map (λ code. code.now) options.now.codes.items) (counties_of state)) }
+        × AreCountiesOf false (F.disk files.old).known options.now.«data».now (map (λ code. code.now) options.now.codes.items) (counties_of state)) }
     ensures err { IfErr result (IsLoadFailure F.opens
-        (HaveRefusedCounty (F.bytes files.old) options.now.«data».now (map (λ code. code.now) options.now.codes.items))
+        (HaveRefusedCounty false (F.disk files.old).known options.now.«data».now (map (λ code. code.now) options.now.codes.items))
         (IsRefusedFileOfOne options.now.«data».now (map (λ code. code.now) options.now.codes.items))
-        (disk F.bytes F.failed_opens F.failed_reads files.old) (disk F.bytes F.failed_opens F.failed_reads files.new)) }
+        (F.disk files.old) (F.disk files.new)) }
     ensures usage { IfErr result (λ failure. status failure ≢ 2) }
 {
-    match load_counties(alloc, files, options.data, options.codes.as_slice()) {
+    match load_counties(alloc, files, options.data, options.codes.as_slice(), false) {
         Ok(counties) => {
             let codes = options.codes.as_slice();
             Ok(State::with_codes(alloc, alloc, counties, codes, start)?)

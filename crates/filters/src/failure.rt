@@ -1,4 +1,12 @@
 //! Why a filter has no program, and what is reported of it.
+//!
+//! The command line and HTTP show the same lines. The first line is the refusal, which scripts read; the second one is for people, with what was
+//! expected, a hint for habits from other query languages, or the nearest column. A filter in JSON is compiled through its text, which nobody sees,
+//! so a refused value has a JSON pointer instead of a line and a column. The pointer may be long, so a failure's text isn't one array but pieces that
+//! borrow from it: `pieces` serves a command, which writes without allocating, and `text` joins them for a reply.
+//!
+//! Always: the number and the class are those of the refusal, with or without a pointer, and exactly one of position and pointer is shown. The note
+//! never decides anything: it is made after the refusal, from the text.
 ghost use Rattle.std.specs.Prelude.{◌≡◌, IfOk};
 ghost use Rattle.std.specs.List.{flat_map};
 ghost use Rattle.cql2_text.specs.FilterFaultKind as filter_flaw;
@@ -200,6 +208,7 @@ fn pointed_pieces<'p>(
     requires { line.now ≡ refusal.line (filter_flaw.refusal flaw) }
     ensures { flat_map (λ piece. piece.now) result ≡ noted_text (pointed_line pointer.now (filter_flaw.refusal flaw)) note.now }
 {
+    // The empty pointer is the whole value, which needs no position.
     if pointer.is_empty() {
         return noted_pieces(line, note);
     }

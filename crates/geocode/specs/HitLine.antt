@@ -3,7 +3,7 @@ use Rattle.std.specs.Prelude.{ℕ, List, ◌++◌, codes, decimal, Option, Some,
 use Rattle.std.specs.Fmt.{signed_decimal}
 use Rattle.std.specs.List.{flat_map}
 use Rattle.geocode.specs.declared.hit.Hit.{Hit}
-use Rattle.line_places.specs.declared.place.Place.{Place}
+use Rattle.linear_referencing.specs.declared.place.Place.{Place}
 use Rattle.geocode.specs.declared.hit.Side.{Side}
 use Rattle.geocode.specs.declared.hit.Side.TheVariants.{Left, Right}
 

@@ -8,7 +8,7 @@ use Rattle.tl_records.specs.declared.layout.Places.{Places}
 use Rattle.tl_records.specs.declared.layout.TheConstants.Type1.{FRLONG, FRLAT, TOLONG, TOLAT}
 use Rattle.tl_segments.specs.Range.{is_between}
 use Rattle.geocode.specs.Sides.{SideParts}
-use Rattle.line_places.specs.declared.place.Place.{Place}
+use Rattle.linear_referencing.specs.declared.place.Place.{Place}
 use Rattle.geocode.specs.declared.measure.Measure.{Measure}
 
 -- a house number and the addresses of its side, if both have a number

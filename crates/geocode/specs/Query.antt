@@ -1,6 +1,6 @@
 -- A geocoder's query: a house number on a street, optionally in a ZIP code.
 use Rattle.std.specs.Prelude.{ℕ, List, [], Option, Some, None, option_map, Result, Ok, Err}
-use Rattle.decimal.specs.Numeral.{decimal_in}
+use Rattle.numerals.specs.Numeral.{decimal_in}
 use Rattle.tl_segments.specs.County.{CountyParts}
 use Rattle.geocode.specs.Hits.{find}
 use Rattle.geocode.specs.NameText.{name_text}

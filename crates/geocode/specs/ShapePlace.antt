@@ -1,9 +1,9 @@
 -- Where a house number lies along the shape of its segment (TIGER/Line 2006, record types 1 and 2), by the length of the shape.
 use Rattle.std.specs.Prelude.{◌≡◌, ℕ, ◌+◌, ◌-◌, ◌==◌, if◌then◌else◌, List, [], ◌∷◌, ◌++◌, Option, Some, None}
 use Rattle.std.specs.List.{flat_map}
-use Rattle.line_places.specs.Place.{IsAtShare}
-use Rattle.line_places.specs.declared.place.Place.{Place}
-use Rattle.line_places.specs.declared.place.Share.{Share}
+use Rattle.linear_referencing.specs.Place.{IsAtShare}
+use Rattle.linear_referencing.specs.declared.place.Place.{Place}
+use Rattle.linear_referencing.specs.declared.place.Share.{Share}
 use Rattle.tl_records.specs.declared.layout.TheConstants.Type1.{FRLONG, FRLAT, TOLONG, TOLAT}
 use Rattle.tl_segments.specs.Range.{lies_on}
 use Rattle.tl_segments.specs.Shape.{ShapePartParts}

@@ -16,6 +16,7 @@ pub(crate) struct Candidate {
     pub span: Span,
 }
 
+// A trait, so that one search walks over all segments or over a chain of an index.
 /// The candidates of a search in a county, in the order of its segments.
 pub(crate) trait Candidates {
     // Of the segments of a county, those with these numbers are left.

@@ -6,6 +6,7 @@ use crate::hit::Hit;
 use crate::matching::Match;
 use std::alloc::{AllocError, Allocator};
 
+// A trait, so that one search serves hits and matches.
 /// A list of matches, or of their hits alone.
 pub(crate) trait Findings<'a> {
     // The list has these matches, or their hits, in order.

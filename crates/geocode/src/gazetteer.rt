@@ -28,6 +28,8 @@ use tl_segments::{County, NAME_LENGTH};
 /// search looks at all its segments.
 #[derive(Drop)]
 pub struct Gazetteer<A: Allocator> {
+    // The counties aren't borrowed, as the server keeps both in one value. An index for each of them takes eight bytes less per name than one for
+    // all.
     indexes: Vec<NameIndex<A>, A>,
 }
 

@@ -4,9 +4,10 @@ ghost use Rattle.geocode.specs.HitLine.{hit_lines, letter, line, place_text};
 
 use arrayvec::ArrayString;
 use itoa::Buffer;
-use line_places::Place;
+use linear_referencing::Place;
 use std::alloc::{AllocError, Allocator};
 
+// 20 digits, a tab, the side, a tab, two coordinates of up to 20 characters with a tab between them, a line feed.
 /// The length of the longest line of a hit in bytes, including its terminator.
 pub const LINE_LENGTH: usize = 65;
 

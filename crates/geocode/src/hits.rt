@@ -26,6 +26,7 @@ pub fn find<A: Allocator + Copy>(
     requires few { length name.now ≤ NAME_LENGTH }
     ensures { IfOk result (λ hits. hits.items ≡ find name.now (record { number = number; zip = zip }) counties.now) }
 {
+    // Without a gazetteer: for one query, a walk over all segments is cheaper than making one.
     let search = Search::by_name(name, House { number, zip });
     let mut hits = Vec::new(alloc);
     for (index, county) in counties.iter().enumerate() {

@@ -27,7 +27,7 @@ pub use gazetteer::Gazetteer;
 pub use hit::{Hit, LINE_LENGTH, Side, hit_lines};
 pub use hits::find;
 pub use latin_1::push_utf8;
-pub use line_places::Place;
+pub use linear_referencing::Place;
 pub use matching::Match;
 pub use name_text::NameText;
 pub use query::{MAX_HOUSE_NUMBER_DIGITS, Query, QueryFault};

@@ -6,7 +6,7 @@ ghost use Rattle.tl_records.specs.Layout.{IsWithin};
 ghost use Rattle.tl_segments.specs.Range.{lies_on};
 
 use crate::sides::SideFields;
-use line_places::{Place, interpolate};
+use linear_referencing::{Place, interpolate};
 use tl_fields::{coordinate, number as number_of};
 use tl_records::{Places, Type1};
 use tl_segments::RECORD_LENGTH;
@@ -69,6 +69,7 @@ fn coordinate_along(from: i64, to: i64, measure: Measure) -> i64
     if measure.from == measure.to {
         return from;
     }
+    // A coordinate times a house number needs more than 64 bits.
     let length = i128::from(to) - i128::from(from);
     let offset = i128::from(measure.number) - i128::from(measure.from);
     let total = i128::from(measure.to) - i128::from(measure.from);

@@ -1,4 +1,7 @@
 //! An index of the names of a county's segments.
+//!
+//! A chain of segments for each key, not a map by names: it stays small even if no two names are equal, and no name is stored a second time. What a
+//! chain has by chance of other names is found out by comparing names.
 ghost use Rattle.std.specs.Prelude.{◌≡◌, ◌≤◌, ◌<◌, ◌+◌, ◌^◌, List, [], ℕ, length, IfOk, OnOk};
 ghost use Rattle.tl_segments.specs.Segment.{SegmentParts, names_of};
 ghost use Rattle.geocode.specs.NameHash.{hash_of, key_of};
@@ -22,6 +25,7 @@ const MAX_LINKS: usize = u32::MAX as usize;
 pub(crate) struct Link {
     /// The segment's number in its county, counted from 0.
     pub segment: u32,
+    // Kept here, as reading the hundreds of segments that have a popular name took most of the time of a search.
     /// The span of its house numbers.
     pub span: Span,
     /// The number of the link of the next segment that has a name with the key, counted from 1, or 0 if there is none.
@@ -99,6 +103,7 @@ impl<A: Allocator + Copy> NameIndex<A> {
     {
         let key = self.key(hash);
         let next = self.first_of_key(key);
+        // A segment's names are added in a row, so the first link shows whether it has this key already.
         if self.is_link_of(next, segment) {
             return Ok(());
         }
@@ -207,6 +212,7 @@ fn keys_for(segments: usize, names: usize) -> u32
     ensures { 1 ≤ result }
 {
     let keys = names / NAMES_PER_KEY;
+    // With a link for each name, files of 1 MB took 300 MB.
     if keys > segments {
         return 1;
     }

@@ -29,10 +29,12 @@ impl NameText {
     pub fn of(text: &str) -> Option<NameText>
         ensures { result ≡ name_text text.now }
     {
+        // Characters, as names come in UTF-8 and the files have Latin-1.
         let length = characters(text);
         if length == 0 || length > NAME_LENGTH {
             return None;
         }
+        // That no file can have the name is an answer, and no fault of the query.
         let bytes = latin_1(text);
         Some(NameText { bytes })
     }

@@ -8,7 +8,7 @@ use crate::gazetteer::Gazetteer;
 use crate::hit::Hit;
 use crate::hits::find;
 use crate::name_text::NameText;
-use decimal::decimal_value;
+use numerals::decimal_value;
 use std::alloc::{AllocError, Allocator};
 use tl_segments::County;
 

@@ -9,7 +9,7 @@ ghost use Rattle.tl_segments.specs.declared.limits.TheConstants.{MAX_LINES_PER_T
 use crate::matching::Match;
 use crate::measure::{Measure, measure_on, place_at};
 use crate::sides::SideFields;
-use line_places::{Place, Share, place_along};
+use linear_referencing::{Place, Share, place_along};
 use std::alloc::{AllocError, Allocator};
 use tl_records::Type1;
 use tl_segments::{MAX_LINES_PER_TLID, Point, ShapePart, lies_on};

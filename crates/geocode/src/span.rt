@@ -96,5 +96,6 @@ impl Span {
 fn bucket(number: u64) -> u16
     ensures { result ≡ bucket number }
 {
+    // 16 bits for an end keep a link at 12 bytes. Few house numbers are above 131,071, and these share a value.
     (number / 2).min(u64::from(u16::MAX)) as u16
 }

@@ -57,6 +57,7 @@ impl Street<'_> {
         requires { HasNameLengths (full_name_of name) }
         ensures { result ≡ fits (parts_of self.entry) (full_name_of name.entry) }
     {
+        // As the Bureau abbreviates types and directions. With synonyms, a wrong guess would be a wrong place.
         name_equals(name.fename, self.name.text)
             && agrees(self.predir, name.fedirp)
             && agrees(self.kind, name.fetype)

@@ -1,6 +1,5 @@
 //! The body of a request, read piece by piece.
 ghost use Rattle.std.specs.Prelude.{◌≡◌, MatchResult};
-ghost use Rattle.counted_io.specs.ReaderWriter.{reader};
 ghost use Rattle.http_message.specs.Reading.{EndsBody, ReadsBody};
 ghost use Rattle.http_message.specs.declared.body.BodyFault.TheVariants.{Memory};
 
@@ -41,8 +40,8 @@ pub fn read_body<A: Allocator + Copy, R: CountedRead>(
     input: &mut R,
 ) -> Result<Vec<u8, A>, BodyFault>
     ensures { MatchResult result
-        (λ body. ReadsBody after_head.now length body.items (reader R.remaining R.failed_reads input.old) (reader R.remaining R.failed_reads input.new))
-        (λ fault. EndsBody fault after_head.now length (reader R.remaining R.failed_reads input.old) (reader R.remaining R.failed_reads input.new)) }
+        (λ body. ReadsBody after_head.now length body.items (R.reader input.old) (R.reader input.new))
+        (λ fault. EndsBody fault after_head.now length (R.reader input.old) (R.reader input.new)) }
 {
     let mut body = Vec::new(alloc);
     body.extend_from_slice(&after_head[..length.min(after_head.len())])?;

@@ -1,6 +1,7 @@
 //! The head of a request, read into a buffer of a fixed size.
+//!
+//! The buffer is on the stack, so a head takes no memory, however it is split.
 ghost use Rattle.std.specs.Prelude.{◌≡◌, length};
-ghost use Rattle.counted_io.specs.ReaderWriter.{reader};
 ghost use Rattle.http_message.specs.Reading.{AnswersHead};
 ghost use Rattle.http_message.specs.Search.{AnswersSearch};
 
@@ -57,7 +58,7 @@ impl HeadBuffer {
         &mut self,
         input: &mut R,
     ) -> Result<Option<Request<'_>>, HeadFault>
-        ensures { AnswersHead result (reader R.remaining R.failed_reads input.old) (reader R.remaining R.failed_reads input.new) }
+        ensures { AnswersHead result (R.reader input.old) (R.reader input.new) }
     {
         match find_head(&mut self.bytes, &mut self.headers, input)? {
             Some(found) => Ok(Some(Request::of(
@@ -78,8 +79,7 @@ fn find_head<R: CountedRead>(
 ) -> Result<Option<Found>, HeadFault>
     requires bytes { length bytes.old ≡ MAX_HEAD_LENGTH }
     requires headers { length headers.old ≡ MAX_HEADERS }
-    ensures { AnswersSearch bytes.new headers.new result
-        (reader R.remaining R.failed_reads input.old) (reader R.remaining R.failed_reads input.new) }
+    ensures { AnswersSearch bytes.new headers.new result (R.reader input.old) (R.reader input.new) }
 {
     let mut count = 0;
     while count < bytes.len() {
@@ -94,6 +94,7 @@ fn find_head<R: CountedRead>(
             };
         }
         count += read;
+        // The grammar is that of `httparse` in its default form, which is known and tested.
         match parse_request(&bytes[..count], headers) {
             Ok(Status::Complete(spans)) => return Ok(Some(Found { spans, count })),
             Ok(Status::Partial) => {}

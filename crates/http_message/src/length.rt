@@ -5,7 +5,7 @@ ghost use Rattle.std.specs.List.{list_all};
 ghost use Rattle.std.specs.Str.Parse.{digits_value};
 ghost use Rattle.http_message.specs.Length.{is_numeral, length_of, up_to_limit};
 
-use decimal::are_digits;
+use numerals::are_digits;
 use thiserror::Error;
 
 /// The greatest number of bytes of a body.

@@ -1,7 +1,6 @@
 //! Replies, and writing them.
 ghost use Rattle.std.specs.Prelude.{[], ◌≡◌, ◌≤◌, ◌+◌, ◌++◌, length, None, option_map};
 ghost use Rattle.std.specs.Option.{ForSome};
-ghost use Rattle.counted_io.specs.ReaderWriter.{writer};
 ghost use Rattle.counted_io.specs.Writing.{WritesText};
 ghost use Rattle.http_message.specs.Status.{text};
 ghost use Rattle.http_message.specs.Reply.{allow_header, head, header, media_type, parts_of, reply_text, status_line};
@@ -12,6 +11,7 @@ use arrayvec::ArrayVec;
 use counted_io::{CountedWrite, WriteFault, write_text};
 use itoa::Buffer;
 
+// A refusal's line and its line feed.
 /// The greatest number of bytes of a body that are stored in the reply itself.
 pub const MAX_LEAD_LENGTH: usize = 65;
 
@@ -88,8 +88,7 @@ impl Reply<'_> {
     /// retry, flush or allocate.
     pub fn write<W: CountedWrite>(&self, out: &mut W) -> Result<(), WriteFault>
         requires { ForSome (parts_of self.now).allow (λ methods. length methods ≤ MAX_ALLOW_LENGTH) }
-        ensures { WritesText (reply_text (parts_of self.now)) result
-            (writer W.contents W.counts out.old) (writer W.contents W.counts out.new) }
+        ensures { WritesText (reply_text (parts_of self.now)) result (W.writer out.old) (W.writer out.new) }
     {
         let mut packet = Packet::new();
         self.push_head(&mut packet);
@@ -118,8 +117,7 @@ impl Reply<'_> {
 
 #[tactic(auto, using(crate::proofs::WritingLemmas::first_failed))]
 fn write_both<W: CountedWrite>(first: &[u8], second: &[u8], out: &mut W) -> Result<(), WriteFault>
-    ensures { WritesText (first.now ++ second.now) result
-        (writer W.contents W.counts out.old) (writer W.contents W.counts out.new) }
+    ensures { WritesText (first.now ++ second.now) result (W.writer out.old) (W.writer out.new) }
 {
     write_text(out, first)?;
     write_text(out, second)

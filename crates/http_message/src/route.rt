@@ -1,4 +1,6 @@
 //! The table of routes.
+//!
+//! A route is a row here and a place in `Route::ALL`. The router, the `Allow` header, the counts and the lines of the log follow from these.
 ghost use Rattle.std.specs.Prelude.{◌≡◌, ◌≤◌, length, map, find, option_map};
 ghost use Rattle.std.specs.Str.{bytes_eq};
 ghost use Rattle.http_message.specs.Routes.{action_of, allow, index, row, verb_name, verb_named};
@@ -35,6 +37,7 @@ pub enum Route {
     Disassemble,
     Explain,
     Extract,
+    // Filters have routes of their own, as `/jobs` and `/extract` take bytes of any Content-Type.
     FilterJobs,
     GeocodeBatch,
     Geocode,
@@ -50,7 +53,7 @@ pub enum Route {
 
 /// A row of the table.
 #[derive(Clone, Copy)]
-struct Row {
+struct RouteRow {
     /// The path. A name in braces stands for any one segment that isn't empty.
     path: &'static str,
     /// The methods, as in the `Allow` header.
@@ -106,7 +109,7 @@ impl Verb {
 macro_rules! row {
     ($route:expr; $($name:ident: $path:literal $allow:literal $($verb:ident $action:ident),*;)*) => {
         match $route {
-            $(Route::$name => Row { path: $path, allow: $allow, methods: &[$((Verb::$verb, Action::$action)),*] },)*
+            $(Route::$name => RouteRow { path: $path, allow: $allow, methods: &[$((Verb::$verb, Action::$action)),*] },)*
         }
     };
 }
@@ -132,7 +135,7 @@ impl Route {
         Route::Job,
     ];
 
-    fn row(self) -> Row
+    fn row(self) -> RouteRow
         ensures path { result.path.now ≡ (row self).path }
         ensures short_path { length result.path.now ≤ 14 }
         ensures allow { result.allow.now ≡ allow self }

@@ -19,6 +19,7 @@ pub struct Routes {
 impl Routes {
     /// Builds the router from the table of routes. Only this call allocates.
     pub fn new(alloc: Global) -> Result<Routes, AllocError> {
+        // `matchit` takes only the global allocator.
         let mut router = Router::new(alloc);
         for route in Route::ALL {
             insert(route, &mut router)?;

@@ -2,7 +2,7 @@
 ghost use Rattle.std.specs.Prelude.{◌≡◌};
 ghost use Rattle.http_message.specs.Target.{job_id, path_of, query_of};
 
-use decimal::are_digits;
+use numerals::are_digits;
 
 // The number of digits of the greatest number below 2^64.
 const ID_LENGTH: usize = 20;

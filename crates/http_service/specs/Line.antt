@@ -13,8 +13,8 @@ use Rattle.http_message.specs.Routes.{row, verb_name}
 use Rattle.http_message.specs.declared.route.Route.{Route}
 use Rattle.http_message.specs.declared.route.Verb.{Verb}
 use Rattle.http_service.specs.declared.entry.Entry.{Entry}
-use Rattle.http_service.specs.declared.entry.Subject.{Subject}
-use Rattle.http_service.specs.declared.entry.Subject.TheVariants.{Start, FailedAccept, Request}
+use Rattle.http_service.specs.declared.entry.EntrySubject.{EntrySubject}
+use Rattle.http_service.specs.declared.entry.EntrySubject.TheVariants.{Start, FailedAccept, Request}
 
 -- a number, or a dash if it isn't known
 abbrev pub number : Option ℕ → List ℕ
@@ -61,7 +61,7 @@ path None = codes "-"
 path (Some route) = (row route).path
 
 -- what the line is about; for a request its request line, with the version of every reply
-abbrev pub subject : Subject → List ℕ
+abbrev pub subject : EntrySubject → List ℕ
 subject Start = codes "start"
 subject FailedAccept = codes "accept failed"
 subject (Request None None) = codes "-"

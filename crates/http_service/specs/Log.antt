@@ -11,7 +11,7 @@ use Rattle.counted_io.specs.Writing.{WritesText}
 use Rattle.counted_io.specs.declared.writing.WriteFault.{WriteFault}
 use Rattle.http_service.specs.Line.{line}
 use Rattle.http_service.specs.declared.entry.Entry.{Entry}
-use Rattle.http_service.specs.declared.entry.Subject.{Subject}
+use Rattle.http_service.specs.declared.entry.EntrySubject.{EntrySubject}
 
 -- what a reading of the date does: the clock before it, its result, and the clock after it
 abbrev pub Dates : Type 0 → Type 1
@@ -48,12 +48,12 @@ pub record WritesEntry (entry : Entry) (old new : Writer) : Type 0 where
   pub writes : WritesText (line entry) written old new
 
 -- the entry of something else than a request
-abbrev pub event_entry : Option HttpDate → Subject → Entry
+abbrev pub event_entry : Option HttpDate → EntrySubject → Entry
 event_entry date subject =
     record { peer = None; date = date; subject = subject; status = None; length = None; received = None; micros = None }
 
 -- its line was written, with the date of the clock
-pub record LogsEvent {T : Type 0} (dates : Dates T) (subject : Subject) (timer timer' : T) (old new : Writer) : Type 0 where
+pub record LogsEvent {T : Type 0} (dates : Dates T) (subject : EntrySubject) (timer timer' : T) (old new : Writer) : Type 0 where
   pub date : Option HttpDate
   pub reads : ReadsDate dates date timer timer'
   pub writes : WritesEntry (event_entry date subject) old new

@@ -8,7 +8,7 @@ use Rattle.httpdate.specs.declared.date.HttpDate.{HttpDate}
 use Rattle.counted_io.specs.ReaderWriter.{Writer}
 use Rattle.http_service.specs.Log.{Dates, LogsEvent, ReadsDate, WritesEntry, micros_between}
 use Rattle.http_service.specs.declared.entry.Entry.{Entry}
-use Rattle.http_service.specs.declared.entry.Subject.TheVariants.{FailedAccept, Request}
+use Rattle.http_service.specs.declared.entry.EntrySubject.TheVariants.{FailedAccept, Request}
 use Rattle.http_service.specs.declared.logged.Logged.{Logged}
 use Rattle.http_service.specs.declared.logged_listener.LoggedListener.{LoggedListener}
 use Rattle.jobs.specs.declared.event.Reply.{Reply as JobReply}

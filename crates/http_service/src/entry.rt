@@ -5,11 +5,12 @@ use std::net::IpAddr;
 
 /// What a line of the log is about.
 #[derive(Clone, Copy, PartialEq, Eq)]
-pub enum Subject {
+pub enum EntrySubject {
     /// The server starts.
     Start,
     /// A connection couldn't be accepted.
     FailedAccept,
+    // By names of the table, not as sent, so that a client can't write into the log.
     /// A request, by its method and its route. Either is `None` if no route has it.
     Request {
         verb: Option<Verb>,
@@ -22,7 +23,7 @@ pub enum Subject {
 pub struct Entry {
     pub peer: Option<IpAddr>,
     pub date: Option<HttpDate>,
-    pub subject: Subject,
+    pub subject: EntrySubject,
     pub status: Option<Status>,
     /// The length of the reply's body, in bytes, if the reply was written completely.
     pub length: Option<u64>,

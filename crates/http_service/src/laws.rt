@@ -1,6 +1,5 @@
 //! Laws over the definitions, as contracts of functions that do nothing.
 ghost use Rattle.std.specs.Prelude.{List};
-ghost use Rattle.counted_io.specs.ReaderWriter.{writer};
 ghost use Rattle.http_service.specs.Logged.{ServesLogged, TurnsLogged};
 ghost use Rattle.http_service.specs.declared.logged.Logged.{Logged};
 ghost use Rattle.tcp_server.specs.Repeats.{HasRepeated};
@@ -19,7 +18,7 @@ pub fn acts<L: Listener, A, W: CountedWrite, T: WallClock>()
     ensures { (limits : Limits) (old new : Server L (Tallied (Logged A W T)))
         → HasRepeated (IsRound (record {
           accepts = L.accepts;
-          serves = ServesTallied (ServesLogged (record { shows = T.shows; dates = T.dates; writer_of = writer W.contents W.counts }));
+          serves = ServesTallied (ServesLogged (record { shows = T.shows; dates = T.dates; writer_of = W.writer }));
           turns = TurnsTallied TurnsLogged;
           limits = limits;
         })) old new

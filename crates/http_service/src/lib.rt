@@ -9,7 +9,7 @@ mod logged;
 mod logged_listener;
 mod logging;
 
-pub use entry::{Entry, Subject};
+pub use entry::{Entry, EntrySubject};
 pub use line::MAX_LINE_LENGTH;
 pub use logged::Logged;
 pub use logged_listener::LoggedListener;

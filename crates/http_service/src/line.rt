@@ -3,7 +3,7 @@ ghost use Rattle.std.specs.Prelude.{◌≡◌, ◌+◌, ◌++◌, ◌≤◌, len
 ghost use Rattle.http_message.specs.Status.{number as status_number};
 ghost use Rattle.http_service.specs.Line.{date, date_and_time, field, line, method, number, path, subject};
 
-use crate::entry::{Entry, Subject};
+use crate::entry::{Entry, EntrySubject};
 use crate::host::host;
 use arrayvec::ArrayVec;
 use http_message::{Route, Verb};
@@ -13,14 +13,14 @@ use itoa::Buffer;
 /// The length of the longest line, in bytes.
 pub const MAX_LINE_LENGTH: usize = 192;
 
-type Line = ArrayVec<u8, MAX_LINE_LENGTH>;
+type LogLine = ArrayVec<u8, MAX_LINE_LENGTH>;
 
 impl Entry {
     /// Returns the line of the entry, with its line feed.
-    pub fn line(&self) -> Line
+    pub fn line(&self) -> LogLine
         ensures { result.items ≡ line self.now }
     {
-        let mut line = Line::new();
+        let mut line = LogLine::new();
         push(host(self.peer).as_slice(), &mut line);
         push(b" - - [", &mut line);
         push(date(self.date).as_slice(), &mut line);
@@ -47,7 +47,7 @@ impl Entry {
 }
 
 /// Appends a blank and a number.
-fn push_field(value: Option<u64>, line: &mut Line)
+fn push_field(value: Option<u64>, line: &mut LogLine)
     requires { length line.old.items + 21 ≤ 192 }
     ensures value { line.new.items ≡ line.old.items ++ field value }
     ensures short { length line.new.items ≤ length line.old.items + 21 }
@@ -56,7 +56,7 @@ fn push_field(value: Option<u64>, line: &mut Line)
     push(number(value).as_slice(), line);
 }
 
-fn push(text: &[u8], line: &mut Line)
+fn push(text: &[u8], line: &mut LogLine)
     requires { length line.old.items + length text.now ≤ 192 }
     ensures value { line.new.items ≡ line.old.items ++ text.now }
     ensures length { length line.new.items ≡ length line.old.items + length text.now }
@@ -105,18 +105,18 @@ fn date_and_time(date: HttpDate) -> [u8; 26]
 }
 
 /// Returns what a line is about.
-fn subject(value: Subject) -> ArrayVec<u8, 32>
+fn subject(value: EntrySubject) -> ArrayVec<u8, 32>
     ensures { result.items ≡ subject value }
 {
     let mut text = ArrayVec::new();
     match value {
-        Subject::Start => text.try_extend_from_slice(b"start").unwrap(),
-        Subject::FailedAccept => text.try_extend_from_slice(b"accept failed").unwrap(),
-        Subject::Request {
+        EntrySubject::Start => text.try_extend_from_slice(b"start").unwrap(),
+        EntrySubject::FailedAccept => text.try_extend_from_slice(b"accept failed").unwrap(),
+        EntrySubject::Request {
             verb: None,
             route: None,
         } => text.push(b'-'),
-        Subject::Request { verb, route } => {
+        EntrySubject::Request { verb, route } => {
             text.try_extend_from_slice(method(verb).as_bytes()).unwrap();
             text.push(b' ');
             text.try_extend_from_slice(path(route).as_bytes()).unwrap();

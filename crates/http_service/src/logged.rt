@@ -2,7 +2,7 @@
 ghost use Rattle.std.specs.Prelude.{◌≡◌};
 ghost use Rattle.http_service.specs.Logged.{close_of};
 
-use crate::entry::{Entry, Subject};
+use crate::entry::{Entry, EntrySubject};
 use crate::logging::{WallClock, micros_between, read_date, write_entry};
 use counted_io::CountedWrite;
 use std::alloc::Allocator;
@@ -28,10 +28,9 @@ impl<A: Allocator, W, T> Logged<A, W, T> {
 }
 
 impl<A: Allocator + Copy, W: CountedWrite, T: WallClock> Service for Logged<A, W, T> {
-    ghost use Rattle.counted_io.specs.ReaderWriter.{writer};
     ghost use Rattle.http_service.specs.Logged.{ServesLogged, TurnsLogged};
 
-    ghost serves = { ServesLogged (record { shows = T.shows; dates = T.dates; writer_of = writer W.contents W.counts }) };
+    ghost serves = { ServesLogged (record { shows = T.shows; dates = T.dates; writer_of = W.writer }) };
 
     ghost turns = { TurnsLogged };
 
@@ -41,11 +40,12 @@ impl<A: Allocator + Copy, W: CountedWrite, T: WallClock> Service for Logged<A, W
         let start = self.timer.read();
         let served = serve_request(&mut self.state, input, out);
         let end = self.timer.read();
+        // After the reply and from its summary, so that no other reply depends on counts or log.
         self.state.count(&served.summary);
         let entry = Entry {
             peer: Some(peer),
             date,
-            subject: Subject::Request {
+            subject: EntrySubject::Request {
                 verb: served.summary.named.verb,
                 route: served.summary.named.route,
             },
@@ -69,6 +69,7 @@ fn close_of(served: Result<RequestRead, WireFault>) -> Close
 {
     match served {
         Ok(RequestRead::Partial) => Close::Lingering,
+        // The rest of the request may arrive after the reply, and closing at once could lose the reply.
         Ok(RequestRead::Complete) | Err(_) => Close::AtOnce,
     }
 }

@@ -1,10 +1,9 @@
 //! A listener with a log.
 ghost use Rattle.std.specs.Prelude.{◌≡◌};
-ghost use Rattle.counted_io.specs.ReaderWriter.{writer};
-ghost use Rattle.http_service.specs.declared.entry.Subject.TheVariants.{Start};
+ghost use Rattle.http_service.specs.declared.entry.EntrySubject.TheVariants.{Start};
 ghost use Rattle.http_service.specs.Log.{LogsEvent};
 
-use crate::entry::Subject;
+use crate::entry::EntrySubject;
 use crate::logging::{WallClock, write_event};
 use counted_io::CountedWrite;
 use std::io;
@@ -23,31 +22,30 @@ impl<L: Listener, W: CountedWrite, T: WallClock> LoggedListener<L, W, T> {
     /// Wraps a listener, and writes the line of the start.
     pub fn new(listener: L, log: W, timer: T) -> Self
         ensures listener { result.listener ≡ listener }
-        ensures logs { LogsEvent T.dates Start timer result.timer (writer W.contents W.counts log) (writer W.contents W.counts result.log) }
+        ensures logs { LogsEvent T.dates Start timer result.timer (W.writer log) (W.writer result.log) }
     {
         let mut logged = LoggedListener {
             listener,
             log,
             timer,
         };
-        write_event(&mut logged.log, &mut logged.timer, Subject::Start);
+        write_event(&mut logged.log, &mut logged.timer, EntrySubject::Start);
         logged
     }
 }
 
 impl<L: Listener, W: CountedWrite, T: WallClock> Listener for LoggedListener<L, W, T> {
-    ghost use Rattle.counted_io.specs.ReaderWriter.{writer};
     ghost use Rattle.http_service.specs.Logged.{AcceptsLogged};
 
     type Stream = L::Stream;
 
-    ghost accepts = { AcceptsLogged L.accepts T.dates (writer W.contents W.counts) };
+    ghost accepts = { AcceptsLogged L.accepts T.dates (W.writer) };
 
     fn accept(&mut self) -> io::Result<(L::Stream, SocketAddr)> {
         match self.listener.accept() {
             Ok(accepted) => Ok(accepted),
             Err(error) => {
-                write_event(&mut self.log, &mut self.timer, Subject::FailedAccept);
+                write_event(&mut self.log, &mut self.timer, EntrySubject::FailedAccept);
                 Err(error)
             }
         }

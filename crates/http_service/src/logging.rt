@@ -1,11 +1,10 @@
 //! Reading the clock for a log, and writing its lines.
 ghost use Rattle.std.specs.Prelude.{◌≡◌, Result, ⊤};
-ghost use Rattle.counted_io.specs.ReaderWriter.{writer};
 ghost use Rattle.std.specs.declared.io.Error.{Error};
 ghost use Rattle.std.specs.declared.time.SystemTime.{SystemTime};
 ghost use Rattle.http_service.specs.Log.{LogsEvent, ReadsDate, ReadsSecond, WritesEntry, micros_between};
 
-use crate::entry::{Entry, Subject};
+use crate::entry::{Entry, EntrySubject};
 use counted_io::{CountedWrite, write_text};
 use httpdate::HttpDate;
 use std::io;
@@ -61,7 +60,7 @@ pub(crate) fn micros_between(start: io::Result<Instant>, end: io::Result<Instant
 
 /// Writes the line of an entry. A failed write isn't reported: a log never changes a reply.
 pub(crate) fn write_entry<W: CountedWrite>(log: &mut W, entry: &Entry)
-    ensures { WritesEntry entry.now (writer W.contents W.counts log.old) (writer W.contents W.counts log.new) }
+    ensures { WritesEntry entry.now (W.writer log.old) (W.writer log.new) }
 {
     let _ = write_text(log, entry.line().as_slice());
 }
@@ -70,9 +69,9 @@ pub(crate) fn write_entry<W: CountedWrite>(log: &mut W, entry: &Entry)
 pub(crate) fn write_event<W: CountedWrite, T: WallClock>(
     log: &mut W,
     timer: &mut T,
-    subject: Subject,
+    subject: EntrySubject,
 )
-    ensures { LogsEvent T.dates subject timer.old timer.new (writer W.contents W.counts log.old) (writer W.contents W.counts log.new) }
+    ensures { LogsEvent T.dates subject timer.old timer.new (W.writer log.old) (W.writer log.new) }
 {
     let date = read_date(timer);
     let entry = Entry {

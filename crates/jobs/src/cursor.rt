@@ -6,6 +6,7 @@ ghost use Rattle.jobs.specs.Segments.{segments_of};
 use std::alloc::Allocator;
 use tl_segments::{County, Segment};
 
+// Each has fewer than 2^32 segments, so the number of all segments fits in 64 bits.
 /// The greatest number of counties that jobs process.
 pub const MAX_COUNTIES: usize = 100_000;
 
@@ -91,6 +92,7 @@ impl Cursor {
                 self.segment = end;
                 return next;
             }
+            // A county may have no segments.
             self.county += 1;
             self.segment = 0;
         }

@@ -61,6 +61,7 @@ impl JobFault {
         match self {
             JobFault::Full => Refusal::refused(70, "Full"),
             JobFault::NoJob => Refusal::refused(71, "NoJob"),
+            // The table's refusal. The line has the program's own, which its sender needs.
             JobFault::Program(_) => Refusal::refused(72, "Refused"),
             JobFault::Memory => Refusal::memory(),
         }

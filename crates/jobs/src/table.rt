@@ -26,6 +26,7 @@ pub struct Jobs<A: Allocator> {
     pub(crate) alloc: A,
     counties: Vec<County<A>, A>,
     pub(crate) total: u64,
+    // Ordered by id, so that ties in progress go to the lowest one.
     pub(crate) jobs: BTreeMap<u64, Job<A>, A>,
     last_id: u64,
 }
@@ -72,6 +73,7 @@ impl<A: Allocator + Copy> Jobs<A> {
         ensures* step { sem 𝓛 (follows_so (the_row A.row A.Allocator) (the_row A.row A.Allocator) self.entry.ghost_name none (λ _ _. ⊤)
             (Step self.old event.entry result)) }
     {
+        // A state machine over events, without threads, locks or clocks, so that one law about all lists of events says what a client sees.
         match event {
             Event::Submit(program) => match self.submit(program) {
                 Ok(id) => Reply::Submitted(id),
@@ -96,6 +98,7 @@ impl<A: Allocator + Copy> Jobs<A> {
         ensures ok { IfOk result (λ id. Step self.old (Submit program.entry) (Submitted id) self.new) }
         ensures err { IfErr result (λ fault. Step self.old (Submit program.entry) (Refused fault) self.new) }
     {
+        // Before the program, so that a full table does no work for one.
         if self.jobs.len() >= MAX_JOBS || self.last_id == u64::MAX {
             return Err(JobFault::Full);
         }

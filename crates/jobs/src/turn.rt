@@ -52,6 +52,7 @@ pub(crate) fn advance_from<A: Allocator + Copy>(
 {
     let before = rows.len();
     let alloc = *rows.allocator();
+    // Moved and not borrowed, as `Counting` owns what it writes to.
     let mut out = Counting::new(mem::replace(rows, Vec::new(alloc)));
     let written = write_turn(verified, counties, from, &mut out);
     *rows = out.into_inner();

@@ -12,32 +12,35 @@ use Rattle.counted_io.specs.ReaderWriter.{Writer}
 use Rattle.counted_io.specs.declared.writing.WriteFault.{WriteFault}
 use Rattle.extract.specs.Extracting.{WritesSelected}
 use Rattle.layers.specs.Counties.{IsLayerOf, WritesLayer, header_of, segments_of}
-use Rattle.layers.specs.Layer.{LayerParts, Rows, Table, Features, ShapeTable, WritesHeader, layer_format}
+use Rattle.layers.specs.Layer.{LayerParts, Rows, Table, Features, WritesHeader, layer_format}
 use Rattle.tl_segments.proofs.ShapeTableLemmas.{no_parts}
 use Rattle.tl_segments.specs.County.{CountyParts}
 use Rattle.tl_segments.specs.Segment.{SegmentParts}
+use Rattle.tl_segments.specs.Shape.{ShapeTable}
 
 pub no_county : (text_of : TextFormat) (code : List Insn) (out : Writer) → WritesSelected text_of code [] out out
 no_county text_of code out = record { text = []; count = 0; is_extract = (refl, refl); written = Appends-refl out.held; counts = refl }
 
--- one more county, written in the same format
-pub county_more : {text_of now_of : TextFormat} {code : List Insn} (same : now_of ≡ text_of) (counties : List CountyParts) (i : ℕ)
-    (county : CountyParts) → i < length counties → county ≡ slice_index_or counties i county → {out between out' : Writer}
-    → WritesSelected text_of code (segments_of (take i counties)) out between → WritesSelected now_of code county.segments between out'
-    → WritesSelected text_of code (segments_of (take (i + 1) counties)) out out'
-county_more {text_of} {now_of} {code} same counties i county inside is {out} {between} {out'} so_far written =
-    let more = subst (λ text_of. WritesSelected text_of code county.segments between out') same written in
-    let front = segments_of (take i counties) in
-    let segments : segments_of (take (i + 1) counties) ≡ front ++ county.segments =
+-- the segments of one more county
+pub segments_more : (counties : List CountyParts) (i : ℕ) (county : CountyParts) → i < length counties → county ≡ slice_index_or counties i county
+    → segments_of (take (i + 1) counties) ≡ segments_of (take i counties) ++ county.segments
+segments_more counties i county inside is =
     ap (λ counties. segments_of counties) (take_more counties i county inside ∙ ap (λ found. take i counties ++ found ∷ []) (sym is))
     ∙ flat_map-append (λ (county : CountyParts). county.segments) (take i counties) (county ∷ [])
-    ∙ ap (λ (back : List SegmentParts). front ++ back) (append-nil county.segments) in
-    subst (λ seen. WritesSelected text_of code seen out out') (sym segments)
+    ∙ ap (λ (back : List SegmentParts). segments_of (take i counties) ++ back) (append-nil county.segments)
+
+-- more segments, written in the same format
+pub selected_more : {text_of now_of : TextFormat} {code : List Insn} {all front back : List SegmentParts} {out between out' : Writer}
+    → now_of ≡ text_of → all ≡ front ++ back → WritesSelected text_of code front out between → WritesSelected now_of code back between out'
+    → WritesSelected text_of code all out out'
+selected_more {text_of} {code = code} {front = front} {back} same all_is so_far written =
+    let more = rw same at written in
+    rw all_is
     (record {
       text = so_far.text ++ more.text;
       count = so_far.count + more.count;
-      is_extract = extract_append text_of code front county.segments so_far.text more.text so_far.count more.count so_far.is_extract more.is_extract;
-      written = Appends-append out.held between.held out'.held so_far.text more.text so_far.written more.written;
+      is_extract = extract_append text_of code front back so_far.text more.text so_far.count more.count so_far.is_extract more.is_extract;
+      written = Appends-append _ _ _ so_far.text more.text so_far.written more.written;
       counts = more.counts ∙ so_far.counts;
     })
 
@@ -51,18 +54,18 @@ header_written Rows out out' (done, same) = subst (λ (out' : Writer). Appends o
 header_written (Table layout) out out' wrote = wrote.0
 header_written (Features layout) out out' (done, same) = subst (λ (out' : Writer). Appends out.held out'.held []) (sym same) (Appends-refl out.held)
 
--- a layer without shapes is straight, and if no write failed, its segments follow its header
-pub layer_written : (layer : LayerParts) (text_of : TextFormat) (shapes : ShapeTable) (code : List Insn) (counties : List CountyParts)
-    (result : Result (Unit {0}) WriteFault) (out headed out' : Writer)
-    → (text_of ≡ layer_format layer shapes) × ((tlid : ℕ) → shapes tlid ≡ []) → WritesHeader layer (Ok tt) out headed
-    → OnOk result (WritesSelected text_of code (segments_of counties) headed out') → OnOk result (WritesLayer layer code counties out out')
-layer_written layer text_of shapes code counties (Ok done) out headed out' (is, none) header written = record {
-  headed = headed;
-  header = header_written layer out headed header;
-  selected = subst (λ text_of. WritesSelected text_of code (segments_of counties) headed out')
-      (is ∙ ap (layer_format layer) (fun_ext (λ (tlid : ℕ). none tlid ∙ sym (no_parts tlid)))) written;
-}
-layer_written layer text_of shapes code counties (Err fault) out headed out' straight header written = tt
+module _ (layer : LayerParts) (code : List Insn) (counties : List CountyParts) where
+  -- a layer without shapes is straight, and if no write failed, its segments follow its header
+  pub layer_written : {text_of : TextFormat} (shapes : ShapeTable) (result : Result (Unit {0}) WriteFault) (out headed out' : Writer)
+      → (text_of ≡ layer_format layer shapes) × ((tlid : ℕ) → shapes tlid ≡ []) → WritesHeader layer (Ok tt) out headed
+      → OnOk result (WritesSelected text_of code (segments_of counties) headed out') → OnOk result (WritesLayer layer code counties out out')
+  layer_written shapes (Ok done) out headed out' (is, none) header written = record {
+    headed = headed;
+    header = header_written layer out headed header;
+    selected = subst (λ text_of. WritesSelected text_of code (segments_of counties) headed out')
+        (is ∙ ap (layer_format layer) (fun_ext (λ (tlid : ℕ). none tlid ∙ sym (no_parts tlid)))) written;
+  }
+  layer_written shapes (Err fault) out headed out' straight header written = tt
 
 -- the layer in memory
 pub layer_made : (layer : LayerParts) (code : List Insn) (counties : List CountyParts) (out out' : Writer) (text : List ℕ)

@@ -6,7 +6,7 @@ use Rattle.cql2.specs.declared.column.Column.{Column as AColumn}
 use Rattle.cql2.specs.declared.column.Column.TheVariants.{Numeric, Text}
 use Rattle.cql2.specs.declared.column.NumberColumn.TheVariants.{Tlid}
 use Rattle.cql2.specs.declared.column.NumericColumn.TheVariants.{Number, Coordinate}
-use Rattle.degrees.specs.Degrees.{degrees}
+use Rattle.numerals.specs.Degrees.{degrees}
 use Rattle.layers.proofs.NumberLemmas.{IsNumber-degrees, coordinate_small}
 use Rattle.layers.specs.Feature.{IsWritable, feature, feature_text, geometry_value, positions, properties, property}
 use Rattle.layers.specs.Geometry.{AreEnds, between, ends_for, ends_of, line_of, line_with, point_at, points_of}

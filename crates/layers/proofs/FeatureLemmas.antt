@@ -5,7 +5,7 @@ use Rattle.std.proofs.lemmas.List.{append-nil}
 use Rattle.std.specs.List.{flat_map}
 use Rattle.cql2.specs.declared.column.Column.{Column as AColumn}
 use Rattle.cql2_tokens.specs.Name.{column_name}
-use Rattle.degrees.specs.Degrees.{degrees}
+use Rattle.numerals.specs.Degrees.{degrees}
 use Rattle.layers.proofs.NameLemmas.{escape-column_name}
 use Rattle.layers.specs.Feature.{end_without_line, feature_line, feature_start, geometry_value, member_text, positions, properties, property, value_text}
 use Rattle.layers.specs.Geometry.{between, ends_for, line_with, points_of}

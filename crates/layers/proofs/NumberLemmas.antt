@@ -9,9 +9,9 @@ use Rattle.std.specs.Char.{is_ascii_digit}
 use Rattle.std.specs.List.{prefix_len}
 use Rattle.std.specs.Str.{all_ascii_digits}
 use Rattle.std.specs.Str.Parse.{digits_value}
-use Rattle.decimal.proofs.NumeralLemmas.{decimal_in-lt}
-use Rattle.decimal.specs.Numeral.{decimal_in}
-use Rattle.degrees.specs.Degrees.{degrees, digit, six_digits}
+use Rattle.numerals.proofs.NumeralLemmas.{decimal_in-lt}
+use Rattle.numerals.specs.Numeral.{decimal_in}
+use Rattle.numerals.specs.Degrees.{degrees, digit, six_digits}
 use Rattle.json.specs.Print.{IsNumber}
 use Rattle.json.specs.Word.{after_digits, after_exponent, after_fraction, after_minus, after_number, after_whole, head}
 use Rattle.tl_fields.specs.Coordinate.{coordinate_of, negative}

@@ -7,7 +7,7 @@ use Rattle.std.specs.List.{flat_map, join_with_byte, list_all}
 use Rattle.cql2.specs.declared.column.Column.{Column as AColumn}
 use Rattle.cql2_tokens.specs.Name.{column_name}
 use Rattle.csv.specs.Writing.{default_writer, escaped, field_text, fields_text, is_blank, needs_byte, needs_quotes, row_body, row_text}
-use Rattle.degrees.specs.Degrees.{degrees}
+use Rattle.numerals.specs.Degrees.{degrees}
 use Rattle.layers.proofs.CellLemmas.{fields_text-append}
 use Rattle.layers.proofs.DigitLemmas.{passes-append, passes-degrees}
 use Rattle.layers.specs.CsvTable.{cell_of, columns_text, csv_row, end_of_header, end_without_line, header_text, if_wanted, line_cell, line_string, names_text}

@@ -3,7 +3,7 @@ use Rattle.std.specs.Prelude.{ℕ, ◌^◌, ◌<◌, List, All, [], ◌∷◌, �
 use Rattle.std.specs.List.{flat_map}
 use Rattle.cql2.specs.declared.column.Column.{Column as AColumn}
 use Rattle.cql2_tokens.specs.Name.{column_name}
-use Rattle.degrees.specs.Degrees.{degrees}
+use Rattle.numerals.specs.Degrees.{degrees}
 use Rattle.layers.specs.Geometry.{line_of}
 use Rattle.layers.specs.Layout.{LayoutParts, SelectedParts}
 use Rattle.layers.specs.Value.{ValueParts, missing, text, number, value_of}

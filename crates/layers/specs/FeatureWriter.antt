@@ -6,11 +6,11 @@ use Rattle.layers.specs.CsvTable as csv
 use Rattle.layers.specs.Feature as feature
 use Rattle.layers.specs.Layer.{LayerParts, Table, Features, layer_format}
 use Rattle.layers.specs.Layout.{LayoutParts}
-use Rattle.layers.specs.ShapeTable.{table_of}
 use Rattle.layers.specs.declared.feature_writer.FeatureWriter.{FeatureWriter}
 use Rattle.layers.specs.declared.geometry.Geometry.{Geometry}
 use Rattle.layers.specs.declared.line.Notation.{Notation}
 use Rattle.layers.specs.declared.line.Notation.TheVariants.{WellKnownText, GeoJson}
+use Rattle.tl_segments.specs.Shapes.{table_of}
 
 -- tables have lines in Well-Known Text, and features in GeoJSON
 abbrev pub layer_in : Notation → LayoutParts → LayerParts

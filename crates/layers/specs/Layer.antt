@@ -13,7 +13,7 @@ use Rattle.tl_fields.specs.Number.{number_of}
 use Rattle.tl_records.specs.Layout.{field_at}
 use Rattle.tl_records.specs.declared.layout.TheConstants.Type1.{TLID}
 use Rattle.tl_segments.specs.Segment.{SegmentParts}
-use Rattle.tl_segments.specs.Shape.{ShapePartParts}
+use Rattle.tl_segments.specs.Shape.{ShapePartParts, ShapeTable}
 
 -- rows, a table in CSV, or features in GeoJSON
 pub data LayerParts : Type 0 where
@@ -43,10 +43,6 @@ abbrev pub layer_text : LayerParts → ℕ → SegmentParts → List ShapePartPa
 layer_text Rows score segment shape = row_of score segment
 layer_text (Table layout) score segment shape = csv.csv_row layout score segment shape
 layer_text (Features layout) score segment shape = feature_line layout score segment shape
-
--- the shapes of TLIDs
-abbrev pub ShapeTable : Type 0
-ShapeTable = ℕ → List ShapePartParts
 
 -- the shape of a TLID, if there is one
 abbrev pub shape_at : ShapeTable → Option ℕ → List ShapePartParts

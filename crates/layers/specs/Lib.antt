@@ -7,7 +7,6 @@ pub mod CsvTable
 pub mod Feature
 pub mod Layer
 pub mod LayerParts
-pub mod ShapeTable
 pub mod FeatureWriter
 pub mod Counties
 pub mod Writing

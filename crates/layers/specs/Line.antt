@@ -1,7 +1,7 @@
 -- Lines of points as text, and the pieces in which they are written.
 use Rattle.std.specs.Prelude.{ℕ, List, [], ◌∷◌, ◌++◌, codes}
 use Rattle.std.specs.List.{flat_map}
-use Rattle.degrees.specs.Degrees.{degrees}
+use Rattle.numerals.specs.Degrees.{degrees}
 use Rattle.layers.specs.declared.line.Notation.{Notation}
 use Rattle.layers.specs.declared.line.Notation.TheVariants.{WellKnownText, GeoJson}
 use Rattle.tl_segments.specs.Shape.{ShapePartParts}

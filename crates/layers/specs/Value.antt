@@ -4,10 +4,10 @@ use Rattle.cql2.specs.declared.column.Column.{Column as AColumn}
 use Rattle.cql2.specs.declared.column.Column.TheVariants.{Numeric, Text}
 use Rattle.cql2.specs.declared.column.NumberColumn.TheVariants.{Tlid}
 use Rattle.cql2.specs.declared.column.NumericColumn.TheVariants.{Number, Coordinate}
-use Rattle.degrees.specs.Degrees.{degrees}
+use Rattle.numerals.specs.Degrees.{degrees}
 use Rattle.layers.specs.Columns.{places_of}
-use Rattle.layers.specs.declared.value.Value.{Value}
-use Rattle.layers.specs.declared.value.Value.TheVariants as value
+use Rattle.layers.specs.declared.value.CellValue.{CellValue}
+use Rattle.layers.specs.declared.value.CellValue.TheVariants as value
 use Rattle.tl_fields.specs.Coordinate.{coordinate_of}
 use Rattle.tl_fields.specs.Number.{number_of, trim}
 use Rattle.tl_records.specs.Layout.{field_at}
@@ -18,7 +18,7 @@ pub data ValueParts : Type 0 where
   text : List ℕ → ValueParts
   number : List ℕ → ValueParts
 
-abbrev pub parts_of : Value → ValueParts
+abbrev pub parts_of : CellValue → ValueParts
 parts_of value.Missing = missing
 parts_of (value.Text bytes) = text bytes.items
 parts_of (value.Number bytes) = number bytes.items

@@ -2,10 +2,10 @@
 ghost use Rattle.std.specs.Prelude.{[], ◌≡◌, ◌+◌, ◌*◌, ◌≤◌, ◌∷◌, ◌++◌, length};
 ghost use Rattle.csv.specs.Writing.{default_writer, escaped, field_text, needs_quotes, quoted};
 
-use crate::text::{MAX_PIECE_LENGTH, Piece, push};
+use crate::text::{MAX_PIECE_LENGTH, RowPiece, push};
 
 /// Appends a cell. It is quoted if it has a comma, a quotation mark or a line end.
-pub(crate) fn push_cell(cell: &[u8], piece: &mut Piece)
+pub(crate) fn push_cell(cell: &[u8], piece: &mut RowPiece)
     requires { length piece.old.items + 2 * length cell.now + 2 ≤ MAX_PIECE_LENGTH }
     ensures text { piece.new.items ≡ piece.old.items ++ field_text default_writer cell.now }
     ensures short { length piece.new.items ≤ length piece.old.items + 2 * length cell.now + 2 }
@@ -27,7 +27,7 @@ fn needs_quotes(cell: &[u8]) -> bool
 /// Appends a cell in quotation marks, with each of its own doubled.
 #[cold]
 #[tactic(auto, using(crate::proofs::CellLemmas::escaped_next), unfolding(csv::specs::Writing::escaped))]
-fn push_quoted(cell: &[u8], piece: &mut Piece)
+fn push_quoted(cell: &[u8], piece: &mut RowPiece)
     requires { length piece.old.items + 2 * length cell.now + 2 ≤ MAX_PIECE_LENGTH }
     ensures text { piece.new.items ≡ piece.old.items ++ quoted default_writer cell.now }
     ensures short { length piece.new.items ≤ length piece.old.items + 2 * length cell.now + 2 }
@@ -41,7 +41,7 @@ fn push_quoted(cell: &[u8], piece: &mut Piece)
 
 /// Appends a byte of a quoted cell, twice if it is a quotation mark.
 #[tactic(auto, unfolding(csv::specs::Writing::escaped))]
-fn push_doubled(byte: u8, piece: &mut Piece)
+fn push_doubled(byte: u8, piece: &mut RowPiece)
     requires { length piece.old.items + 2 ≤ MAX_PIECE_LENGTH }
     ensures text { piece.new.items ≡ piece.old.items ++ escaped default_writer (byte ∷ []) }
     ensures short { length piece.new.items ≤ length piece.old.items + 2 }

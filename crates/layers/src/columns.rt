@@ -66,6 +66,7 @@ pub const COLUMNS: [Column; MAX_COLUMNS] = [
 /// The columns of a table, at least one. Contracts see them as a list.
 #[derive(Drop)]
 pub struct Columns {
+    // An array, as columns are made without an allocator.
     columns: [Column; MAX_COLUMNS],
     count: usize,
 }

@@ -1,6 +1,5 @@
 //! The layer of counties that are in memory.
 ghost use Rattle.std.specs.Prelude.{IfOk, OnOk};
-ghost use Rattle.counted_io.specs.ReaderWriter.{writer};
 ghost use Rattle.extract.specs.Extracting.{WritesSelected};
 ghost use Rattle.layers.specs.Counties.{IsLayerOf, WritesLayer, segments_of};
 ghost use Rattle.layers.specs.LayerParts.{parts_of};
@@ -38,8 +37,7 @@ fn write_layer_of<A: Allocator, B: Allocator, W: CountedWrite>(
     layer: &Layer,
     out: &mut W,
 ) -> Result<(), WriteFault>
-    ensures { OnOk result (WritesLayer (parts_of layer.now) verified.now.code counties.now
-        (writer W.contents W.counts out.old) (writer W.contents W.counts out.new)) }
+    ensures { OnOk result (WritesLayer (parts_of layer.now) verified.now.code counties.now (W.writer out.old) (W.writer out.new)) }
 {
     layer.write_header(out)?;
     match FeatureWriter::<A>::of(layer, None) {
@@ -55,8 +53,7 @@ fn write_counties<A: Allocator, B: Allocator, F: Format, W: CountedWrite>(
     format: &mut F,
     out: &mut W,
 ) -> Result<(), WriteFault>
-    ensures { OnOk result (WritesSelected (F.text_of format.old) verified.now.code (segments_of counties.now)
-        (writer W.contents W.counts out.old) (writer W.contents W.counts out.new)) }
+    ensures { OnOk result (WritesSelected (F.text_of format.old) verified.now.code (segments_of counties.now) (W.writer out.old) (W.writer out.new)) }
 {
     for county in counties {
         write_segments(verified, county.segments(), format, out)?;

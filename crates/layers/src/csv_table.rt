@@ -1,6 +1,5 @@
 //! Tables in CSV (RFC 4180): a header, and a row for each segment, with its line as Well-Known Text in the column `WKT`.
 ghost use Rattle.std.specs.Prelude.{◌≡◌, ◌+◌, ◌≤◌, [], ◌++◌, length};
-ghost use Rattle.counted_io.specs.ReaderWriter.{writer};
 ghost use Rattle.counted_io.specs.Writing.{WritesText};
 ghost use Rattle.csv.specs.Writing.{default_writer, field_text};
 ghost use Rattle.layers.specs.CsvTable.{cell_of, columns_text, end_of_header, end_without_line, header_text, names_text};
@@ -9,8 +8,8 @@ ghost use Rattle.layers.specs.Value.{parts_of};
 use crate::cell::push_cell;
 use crate::columns::{Columns, MAX_COLUMNS};
 use crate::geometry::Geometry;
-use crate::text::{MAX_PIECE_LENGTH, MAX_ROW_LENGTH, Piece, push};
-use crate::value::{Value, value_of};
+use crate::text::{MAX_PIECE_LENGTH, MAX_ROW_LENGTH, RowPiece, push};
+use crate::value::{CellValue, value_of};
 use counted_io::{CountedWrite, WriteFault, write_text};
 use cql2::Column;
 use cql2_tokens::column_name;
@@ -23,10 +22,9 @@ pub(crate) fn write_header<W: CountedWrite>(
     geometry: Geometry,
     out: &mut W,
 ) -> Result<(), WriteFault>
-    ensures { WritesText (header_text (record { columns = columns.now; geometry = geometry })) result
-        (writer W.contents W.counts out.old) (writer W.contents W.counts out.new) }
+    ensures { WritesText (header_text (record { columns = columns.now; geometry = geometry })) result (W.writer out.old) (W.writer out.new) }
 {
-    let mut piece = Piece::new();
+    let mut piece = RowPiece::new();
     push_names(columns.as_slice(), &mut piece);
     push(end_of_header(geometry), &mut piece);
     write_text(out, piece.as_slice())
@@ -34,12 +32,13 @@ pub(crate) fn write_header<W: CountedWrite>(
 
 /// Appends the names of the score and of the columns.
 #[tactic(auto, using(crate::proofs::NameLemmas::name_short), unfolding(csv::specs::Writing::fields_text))]
-fn push_names(columns: &[Column], piece: &mut Piece)
+fn push_names(columns: &[Column], piece: &mut RowPiece)
     requires empty { piece.old.items ≡ [] }
     requires few { length columns.now ≤ MAX_COLUMNS }
     ensures text { piece.new.items ≡ names_text columns.now }
     ensures short { length piece.new.items ≤ MAX_ROW_LENGTH }
 {
+    // No county's code, which isn't in the record. A caller with several counties can write it before each row.
     push(b"score", piece);
     for column in columns {
         push(b",", piece);
@@ -60,7 +59,7 @@ fn end_of_header(geometry: Geometry) -> &'static [u8]
 
 /// Appends the score and the values of columns, with which a row starts.
 #[tactic(auto, unfolding(csv::specs::Writing::fields_text))]
-pub(crate) fn push_columns(score: u64, columns: &[Column], line: &[u8], piece: &mut Piece)
+pub(crate) fn push_columns(score: u64, columns: &[Column], line: &[u8], piece: &mut RowPiece)
     requires empty { piece.old.items ≡ [] }
     requires few { length columns.now ≤ MAX_COLUMNS }
     requires whole { length line.now ≡ RECORD_LENGTH }
@@ -75,15 +74,15 @@ pub(crate) fn push_columns(score: u64, columns: &[Column], line: &[u8], piece: &
 }
 
 /// Appends a value; a missing one is an empty cell.
-fn push_value(value: Value, piece: &mut Piece)
+fn push_value(value: CellValue, piece: &mut RowPiece)
     requires { length piece.old.items + 122 ≤ MAX_PIECE_LENGTH }
     ensures text { piece.new.items ≡ piece.old.items ++ field_text default_writer (cell_of (parts_of value)) }
     ensures short { length piece.new.items ≤ length piece.old.items + 122 }
 {
     match value {
-        Value::Missing => {}
-        Value::Text(bytes) => push_cell(bytes.as_slice(), piece),
-        Value::Number(bytes) => push_cell(bytes.as_slice(), piece),
+        CellValue::Missing => {}
+        CellValue::Text(bytes) => push_cell(bytes.as_slice(), piece),
+        CellValue::Number(bytes) => push_cell(bytes.as_slice(), piece),
     }
 }
 

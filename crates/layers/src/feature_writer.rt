@@ -3,13 +3,13 @@ ghost use Rattle.std.specs.Prelude.{◌≡◌, ◌≤◌, [], length, MatchOptio
 ghost use Rattle.layers.specs.FeatureWriter.{end_without_line, parts_in, start_of};
 ghost use Rattle.layers.specs.Layer.{Rows, shape_in};
 ghost use Rattle.layers.specs.LayerParts.{parts_of};
-ghost use Rattle.layers.specs.ShapeTable.{table_of};
+ghost use Rattle.tl_segments.specs.Shapes.{table_of};
 
 use crate::columns::{Columns, MAX_COLUMNS};
 use crate::geometry::Geometry;
 use crate::layer::{Layer, TableOptions};
 use crate::line::{Notation, write_line};
-use crate::text::{MAX_ROW_LENGTH, Piece, push};
+use crate::text::{MAX_ROW_LENGTH, RowPiece, push};
 use crate::{csv_table, feature_lines};
 use counted_io::{CountedWrite, WriteFault, write_text};
 use cql2::Column;
@@ -27,7 +27,7 @@ pub(crate) struct FeatureWriter<A: Allocator> {
     columns: Columns,
     geometry: Geometry,
     shapes: Option<Shapes<A>>,
-    piece: Piece,
+    piece: RowPiece,
 }
 
 impl<A: Allocator> FeatureWriter<A> {
@@ -54,7 +54,7 @@ impl<A: Allocator> FeatureWriter<A> {
             columns: options.columns.copied(),
             geometry: options.geometry,
             shapes,
-            piece: Piece::new(),
+            piece: RowPiece::new(),
         }
     }
 }
@@ -102,7 +102,7 @@ impl<A: Allocator> Format for FeatureWriter<A> {
 }
 
 /// Appends the score and the columns.
-fn push_start(notation: Notation, score: u64, columns: &[Column], line: &[u8], piece: &mut Piece)
+fn push_start(notation: Notation, score: u64, columns: &[Column], line: &[u8], piece: &mut RowPiece)
     requires empty { piece.old.items ≡ [] }
     requires few { length columns.now ≤ MAX_COLUMNS }
     requires whole { length line.now ≡ RECORD_LENGTH }

@@ -38,6 +38,7 @@ pub fn table_reads_back()
         ≡ header_cells table ∷ map (λ one. row_cells table one.score one.segment one.shape) selected }
 {}
 
+// Numbers are text to this reader, as floating point wouldn't say which millionths were written.
 /// States that a feature, as a reader of the crate json reads it, has the members and the values that are defined, in order. Numbers are read as text.
 #[tactic(auto, using(crate::proofs::DocumentLemmas::document_of_feature))]
 pub fn feature_reads_back()

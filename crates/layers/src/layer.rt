@@ -1,6 +1,5 @@
 //! The forms of a layer.
 ghost use Rattle.std.specs.Prelude.{◌≡◌};
-ghost use Rattle.counted_io.specs.ReaderWriter.{writer};
 ghost use Rattle.layers.specs.Layer.{is_shape};
 
 use crate::columns::Columns;
@@ -42,8 +41,7 @@ impl Layer {
 
     /// Writes what comes before all segments: the header of a table. Nothing is retried, and nothing is flushed.
     pub fn write_header<W: CountedWrite>(&self, out: &mut W) -> Result<(), WriteFault>
-        ensures { WritesHeader (parts_of self.now) result
-            (writer W.contents W.counts out.old) (writer W.contents W.counts out.new) }
+        ensures { WritesHeader (parts_of self.now) result (W.writer out.old) (W.writer out.new) }
     {
         match self {
             Layer::Table(options) => write_header(&options.columns, options.geometry, out),

@@ -23,4 +23,4 @@ pub use columns_fault::ColumnsFault;
 pub use counties::lay_out;
 pub use geometry::Geometry;
 pub use layer::{Layer, TableOptions};
-pub use writing::{LayerFiles, write_county, write_layer};
+pub use writing::{write_county, write_layer};

@@ -1,14 +1,13 @@
 //! Lines of points, as a row or a feature ends with them.
 ghost use Rattle.std.specs.Prelude.{◌≡◌, ◌+◌, ◌≤◌, [], ◌++◌, length, All};
 ghost use Rattle.std.specs.List.{flat_map};
-ghost use Rattle.counted_io.specs.ReaderWriter.{writer};
 ghost use Rattle.counted_io.specs.Writing.{WritesText};
 ghost use Rattle.layers.specs.Geometry.{AreEnds};
 ghost use Rattle.layers.specs.Line.{coordinates_text, further_points, line_end, line_start, point_text, rest_text, start_text};
 ghost use Rattle.tl_segments.specs.Shape.{IsPoint};
 
 use crate::ends::Ends;
-use crate::text::{MAX_PIECE_LENGTH, MAX_ROW_LENGTH, Piece, push, push_degrees};
+use crate::text::{MAX_PIECE_LENGTH, MAX_ROW_LENGTH, RowPiece, push, push_degrees};
 use counted_io::{CountedWrite, WriteFault, write_text};
 use tl_segments::{Point, ShapePart};
 
@@ -52,13 +51,13 @@ pub(crate) fn write_line<W: CountedWrite>(
     notation: Notation,
     ends: Ends,
     between: &[ShapePart],
-    piece: &mut Piece,
+    piece: &mut RowPiece,
     out: &mut W,
 ) -> Result<(), WriteFault>
     requires room { length piece.old.items ≤ MAX_ROW_LENGTH }
     requires ends { AreEnds ends }
     ensures { WritesText (piece.old.items ++ start_text notation ends.start ++ rest_text notation between.now ends.end) result
-        (writer W.contents W.counts out.old) (writer W.contents W.counts out.new) }
+        (W.writer out.old) (W.writer out.new) }
 {
     push(notation.start(), piece);
     push_point(notation, ends.start, piece);
@@ -72,12 +71,11 @@ fn write_rest<W: CountedWrite>(
     notation: Notation,
     between: &[ShapePart],
     end: Point,
-    piece: &mut Piece,
+    piece: &mut RowPiece,
     out: &mut W,
 ) -> Result<(), WriteFault>
     requires { IsPoint end }
-    ensures { WritesText (rest_text notation between.now end) result
-        (writer W.contents W.counts out.old) (writer W.contents W.counts out.new) }
+    ensures { WritesText (rest_text notation between.now end) result (W.writer out.old) (W.writer out.new) }
 {
     write_parts(notation, between, piece, out)?;
     piece.clear();
@@ -92,12 +90,12 @@ fn write_rest<W: CountedWrite>(
 fn write_parts<W: CountedWrite>(
     notation: Notation,
     parts: &[ShapePart],
-    piece: &mut Piece,
+    piece: &mut RowPiece,
     out: &mut W,
 ) -> Result<(), WriteFault>
-    ensures { WritesText (flat_map (λ part. further_points notation part.points) parts.now) result
-        (writer W.contents W.counts out.old) (writer W.contents W.counts out.new) }
+    ensures { WritesText (flat_map (λ part. further_points notation part.points) parts.now) result (W.writer out.old) (W.writer out.new) }
 {
+    // One part of a shape at a time, so that the buffer has a fixed size and nothing is allocated, however many points there are.
     for part in parts {
         piece.clear();
         push_points(notation, part.points(), piece);
@@ -107,7 +105,7 @@ fn write_parts<W: CountedWrite>(
 }
 
 /// Appends points, each after a comma.
-fn push_points(notation: Notation, points: &[Point], piece: &mut Piece)
+fn push_points(notation: Notation, points: &[Point], piece: &mut RowPiece)
     requires empty { piece.old.items ≡ [] }
     requires few { length points.now ≤ 10 }
     requires small { All IsPoint points.now }
@@ -121,7 +119,7 @@ fn push_points(notation: Notation, points: &[Point], piece: &mut Piece)
 }
 
 /// Appends a point.
-fn push_point(notation: Notation, point: Point, piece: &mut Piece)
+fn push_point(notation: Notation, point: Point, piece: &mut RowPiece)
     requires room { length piece.old.items + MAX_POINT_LENGTH ≤ MAX_PIECE_LENGTH }
     requires small { IsPoint point }
     ensures text { piece.new.items ≡ piece.old.items ++ point_text notation point }
@@ -138,7 +136,7 @@ fn push_point(notation: Notation, point: Point, piece: &mut Piece)
 }
 
 /// Appends the longitude and the latitude of a point with a byte between them.
-fn push_coordinates(point: Point, between: u8, piece: &mut Piece)
+fn push_coordinates(point: Point, between: u8, piece: &mut RowPiece)
     requires room { length piece.old.items + 57 ≤ MAX_PIECE_LENGTH }
     requires small { IsPoint point }
     ensures text { piece.new.items ≡ piece.old.items ++ coordinates_text between point }

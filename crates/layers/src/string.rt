@@ -3,11 +3,11 @@ ghost use Rattle.std.specs.Prelude.{◌≡◌, ◌+◌, ◌*◌, ◌<◌, ◌≤
 ghost use Rattle.std.specs.Char.{digit_char};
 ghost use Rattle.json.specs.Print.{escape_byte, escape_letter, quoted};
 
-use crate::text::{MAX_PIECE_LENGTH, Piece, push};
+use crate::text::{MAX_PIECE_LENGTH, RowPiece, push};
 
 /// Appends a text as a string.
 #[tactic(auto, using(crate::proofs::StringLemmas::escape_next))]
-pub(crate) fn push_string(text: &[u8], piece: &mut Piece)
+pub(crate) fn push_string(text: &[u8], piece: &mut RowPiece)
     requires { length piece.old.items + 6 * length text.now + 2 ≤ MAX_PIECE_LENGTH }
     ensures text { piece.new.items ≡ piece.old.items ++ quoted text.now }
     ensures short { length piece.new.items ≤ length piece.old.items + 6 * length text.now + 2 }
@@ -22,7 +22,7 @@ pub(crate) fn push_string(text: &[u8], piece: &mut Piece)
 /// Appends a byte of a string, escaped if it is a quotation mark, a backslash or a control character.
 #[inline(always)]
 #[tactic(auto, unfolding(json::specs::Print::escape_byte))]
-fn push_escaped(byte: u8, piece: &mut Piece)
+fn push_escaped(byte: u8, piece: &mut RowPiece)
     requires { length piece.old.items + 6 ≤ MAX_PIECE_LENGTH }
     ensures text { piece.new.items ≡ piece.old.items ++ escape_byte byte }
     ensures short { length piece.new.items ≤ length piece.old.items + 6 }

@@ -1,7 +1,7 @@
 //! Values of columns.
 ghost use Rattle.std.specs.Prelude.{◌≡◌, ◌≤◌, ◌+◌, ◌++◌, length, encode_utf8, encode_utf8_all, reverse};
 ghost use Rattle.std.specs.Prelude.{decimal, option_map};
-ghost use Rattle.degrees.specs.Degrees.{degrees};
+ghost use Rattle.numerals.specs.Degrees.{degrees};
 ghost use Rattle.layers.specs.Value.{number_value, parts_of, text_value, value_of};
 ghost use Rattle.tl_fields.specs.Coordinate.{coordinate_of};
 ghost use Rattle.tl_fields.specs.Number.{number_of, trim, without_blanks_before};
@@ -9,8 +9,8 @@ ghost use Rattle.tl_fields.specs.Number.{number_of, trim, without_blanks_before}
 use crate::columns::{MAX_FIELD_LENGTH, places_of};
 use arrayvec::ArrayVec;
 use cql2::{Column, NumberColumn, NumericColumn};
-use degrees::{DEGREES_LENGTH, degrees};
 use itoa::Buffer;
+use numerals::{DEGREES_LENGTH, degrees};
 use tl_fields::{coordinate, number};
 use tl_records::RECORD_LENGTH;
 
@@ -21,14 +21,14 @@ pub(crate) const MAX_VALUE_LENGTH: usize = 60;
 
 /// The value of a column in a record, as text.
 #[derive(Drop)]
-pub(crate) enum Value {
+pub(crate) enum CellValue {
     Missing,
     Text(ArrayVec<u8, MAX_VALUE_LENGTH>),
     Number(ArrayVec<u8, DEGREES_LENGTH>),
 }
 
 /// Returns the value of a column in a type 1 record.
-pub(crate) fn value_of(column: Column, line: &[u8]) -> Value
+pub(crate) fn value_of(column: Column, line: &[u8]) -> CellValue
     requires { length line.now ≡ RECORD_LENGTH }
     ensures { parts_of result ≡ value_of column line.now }
 {
@@ -36,44 +36,45 @@ pub(crate) fn value_of(column: Column, line: &[u8]) -> Value
     match column {
         Column::Numeric(NumericColumn::Number(NumberColumn::Tlid)) => integer(field),
         Column::Numeric(NumericColumn::Coordinate(_)) => coordinate_value(field),
+        // These stay texts: codes keep their zeros, and house numbers may have letters.
         Column::Numeric(NumericColumn::Number(_)) | Column::Text(_) => text_value(field),
     }
 }
 
 /// Returns the number of a field.
-fn integer(field: &[u8]) -> Value
+fn integer(field: &[u8]) -> CellValue
     ensures { parts_of result ≡ number_value (option_map decimal (number_of field.now)) }
 {
     let Some(number) = number(field) else {
-        return Value::Missing;
+        return CellValue::Missing;
     };
     let mut digits = ArrayVec::new();
     digits
         .try_extend_from_slice(Buffer::new().format(number).as_bytes())
         .unwrap();
-    Value::Number(digits)
+    CellValue::Number(digits)
 }
 
 /// Returns the coordinate of a field in degrees.
-fn coordinate_value(field: &[u8]) -> Value
+fn coordinate_value(field: &[u8]) -> CellValue
     ensures { parts_of result ≡ number_value (option_map degrees (coordinate_of field.now)) }
 {
     match coordinate(field) {
-        Some(millionths) => Value::Number(degrees(millionths)),
-        None => Value::Missing,
+        Some(millionths) => CellValue::Number(degrees(millionths)),
+        None => CellValue::Missing,
     }
 }
 
 /// Returns the text of a field.
-fn text_value(field: &[u8]) -> Value
+fn text_value(field: &[u8]) -> CellValue
     requires { length field.now ≤ MAX_FIELD_LENGTH }
     ensures { parts_of result ≡ text_value (trim field.now) }
 {
     let text = trim(field);
     if text.is_empty() {
-        return Value::Missing;
+        return CellValue::Missing;
     }
-    Value::Text(utf8_of(text))
+    CellValue::Text(utf8_of(text))
 }
 
 /// Removes leading and trailing blanks.

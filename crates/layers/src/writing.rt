@@ -1,9 +1,7 @@
 //! The layer of a county.
-ghost use Rattle.std.specs.Prelude.{IfErr, IfOk, option_map};
-ghost use Rattle.counted_io.specs.ReaderWriter.{reader, writer};
 ghost use Rattle.layers.specs.LayerParts.{parts_of};
-ghost use Rattle.layers.specs.ShapeTable.{IsShapesFault, LoadsShapes, table_of};
-ghost use Rattle.layers.specs.Writing.{IsHeadedOutcome, IsLayerOutcome, layer_readers};
+ghost use Rattle.layers.specs.Writing.{IsHeadedOutcome, IsLayerOutcome};
+ghost use Rattle.tl_segments.specs.County.{county_readers};
 
 use crate::feature_writer::FeatureWriter;
 use crate::layer::Layer;
@@ -11,25 +9,19 @@ use bpf_verify::Verified;
 use counted_io::{CountedRead, CountedWrite};
 use extract::{ExtractFault, RowBuffer, extract_verified_in};
 use std::alloc::Allocator;
-use tl_segments::{CountyFiles, LoadFault, Shapes};
-
-/// The readers of a county's files, also of record type 2 if the shapes of segments are wanted.
-pub struct LayerFiles<R> {
-    pub county: CountyFiles<R>,
-    pub rt2: Option<R>,
-}
+use tl_segments::CountyFiles;
 
 /// Writes the header of a layer, and then the segments of one county that an accepted program selects, as [`write_county`] does. Returns their number.
 pub fn write_layer<A: Allocator + Copy, B: Allocator, R: CountedRead, W: CountedWrite>(
     alloc: A,
     verified: &Verified<B>,
-    files: &mut LayerFiles<R>,
+    files: &mut CountyFiles<R>,
     layer: &Layer,
     out: &mut W,
 ) -> Result<u64, ExtractFault>
     ensures { IsHeadedOutcome (parts_of layer.now) verified.now.code result
-        (layer_readers R.remaining R.failed_reads files.old) (layer_readers R.remaining R.failed_reads files.new)
-        (writer W.contents W.counts out.old) (writer W.contents W.counts out.new) }
+        (county_readers R.reader files.old) (county_readers R.reader files.new)
+        (W.writer out.old) (W.writer out.new) }
 {
     match layer.write_header(out) {
         Ok(()) => write_county(alloc, verified, files, layer, out),
@@ -43,37 +35,18 @@ pub fn write_layer<A: Allocator + Copy, B: Allocator, R: CountedRead, W: Counted
 pub fn write_county<A: Allocator + Copy, B: Allocator, R: CountedRead, W: CountedWrite>(
     alloc: A,
     verified: &Verified<B>,
-    files: &mut LayerFiles<R>,
+    files: &mut CountyFiles<R>,
     layer: &Layer,
     out: &mut W,
 ) -> Result<u64, ExtractFault>
     ensures { IsLayerOutcome (parts_of layer.now) verified.now.code result
-        (layer_readers R.remaining R.failed_reads files.old) (layer_readers R.remaining R.failed_reads files.new)
-        (writer W.contents W.counts out.old) (writer W.contents W.counts out.new) }
+        (county_readers R.reader files.old) (county_readers R.reader files.new)
+        (W.writer out.old) (W.writer out.new) }
 {
-    let shapes = load_shapes(alloc, &mut files.rt2)?;
-    let county = &mut files.county;
+    // First, and only for a layer with shapes, so that rows cost what they would without them.
+    let shapes = files.load_shapes(alloc)?;
     match FeatureWriter::of(layer, shapes) {
-        Some(mut features) => extract_verified_in(alloc, verified, county, &mut features, out),
-        None => extract_verified_in(alloc, verified, county, &mut RowBuffer::new(), out),
-    }
-}
-
-/// Reads a type 2 file to its end, if there is one.
-fn load_shapes<A: Allocator + Copy, R: CountedRead>(
-    alloc: A,
-    rt2: &mut Option<R>,
-) -> Result<Option<Shapes<A>>, LoadFault>
-    ensures ok { IfOk result (λ shapes. LoadsShapes (table_of shapes)
-        (option_map (reader R.remaining R.failed_reads) rt2.old) (option_map (reader R.remaining R.failed_reads) rt2.new)) }
-    ensures err { IfErr result (λ fault. IsShapesFault fault
-        (option_map (reader R.remaining R.failed_reads) rt2.old) (option_map (reader R.remaining R.failed_reads) rt2.new)) }
-{
-    match rt2 {
-        Some(rt2) => match Shapes::load(alloc, rt2) {
-            Ok(shapes) => Ok(Some(shapes)),
-            Err(fault) => Err(fault),
-        },
-        None => Ok(None),
+        Some(mut features) => extract_verified_in(alloc, verified, files, &mut features, out),
+        None => extract_verified_in(alloc, verified, files, &mut RowBuffer::new(), out),
     }
 }

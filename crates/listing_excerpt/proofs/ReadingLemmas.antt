@@ -1,8 +1,7 @@
 -- Which instruction bytes begin with.
-use Rattle.std.proofs.Common.{◌≡◌, ◌⊎◌, inl, inr, ℕ, ◌*◌, ◌/◌, ◌≤◌, ◌<◌, List, [], ◌∷◌, length, take, refl, sym, ap, ◌∙◌, arith, subst}
+use Rattle.std.proofs.Common.{◌≡◌, ◌⊎◌, inl, inr, ℕ, ◌*◌, ◌/◌, ◌≤◌, List, [], ◌∷◌, length, take, refl, sym, ap, ◌∙◌, arith, subst}
 use Rattle.std.specs.Prelude.{Option, Some, None}
 use Rattle.std.proofs.lemmas.List.{length-take, length-take-le}
-use Rattle.std.proofs.Math.Nat.{min-le_right}
 use Rattle.bpf_insn.proofs.CodeLemmas.{word_count_of}
 use Rattle.bpf_insn.proofs.PlaceLemmas.{word_count-one}
 use Rattle.bpf_insn.specs.Code.{IsCodeOf, spelling}
@@ -33,22 +32,6 @@ none-of : (bytes : List ℕ) (insn : Insn) → (length (spelling insn) ≡ 1) �
     → ¬ (IsCodeOf (take 16 bytes) (insn ∷ [])) → ¬ (IsCodeOf (take (length (spelling insn) * 8) bytes) (insn ∷ []))
 none-of bytes insn (inl one) not_one not_two is = not_one insn (subst (λ (n : ℕ). IsCodeOf (take (n * 8) bytes) (insn ∷ [])) one is)
 none-of bytes insn (inr two) not_one not_two is = not_two (subst (λ (n : ℕ). IsCodeOf (take (n * 8) bytes) (insn ∷ [])) two is)
-
--- there is no second word
-pub begins-none : (bytes : List ℕ) → 8 ≤ length bytes → length bytes < 16 → IsOnly (take 8 bytes) None → Begins bytes None
-begins-none bytes long short not_one insn is =
-    let words : length (spelling insn) ≡ length (take (length (spelling insn) * 8) bytes) / 8 =
-    words-are (take (length (spelling insn) * 8) bytes) insn is in
-    let few : length (take (length (spelling insn) * 8) bytes) ≤ length bytes = length-take-below (length (spelling insn) * 8) bytes in
-    let one : length (spelling insn) ≡ 1 = only-one (one-or-two insn) (omega (arith, words, few)) in
-    not_one insn (subst (λ (n : ℕ). IsCodeOf (take (n * 8) bytes) (insn ∷ [])) one is)
-  where
-    length-take-below : (n : ℕ) (xs : List ℕ) → length (take n xs) ≤ length xs
-    length-take-below n xs = let is = length-take n xs in let below = min-le_right n (length xs) in omega (arith, is, below)
-
-    only-one : {n : ℕ} → (n ≡ 1) ⊎ (n ≡ 2) → n < 2 → n ≡ 1
-    only-one (inl one) few = one
-    only-one (inr two) few = absurd (omega arith)
 
 -- there is a second word
 pub begins-wide : (bytes : List ℕ) (found : Option Insn) → 16 ≤ length bytes → IsOnly (take 8 bytes) None → IsOnly (take 16 bytes) found

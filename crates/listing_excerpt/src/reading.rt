@@ -28,6 +28,7 @@ fn first_instruction<A: Allocator + Copy>(
     requires { 8 ≤ length bytes.now }
     ensures { IfOk result (Begins bytes.now) }
 {
+    // Decoded by itself, as the program as a whole is refused.
     match only_instruction(alloc, &bytes[..WORD_BYTES])? {
         Some(insn) => Ok(Some(insn)),
         None => wide_instruction(alloc, bytes),

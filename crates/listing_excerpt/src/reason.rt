@@ -47,6 +47,7 @@ fn unused_reason(word: &[u8]) -> &'static str
 fn call_reason(source: u8, immediate: i32) -> &'static str
     ensures { result.now ≡ call_reason source immediate }
 {
+    // By this field clang and the kernel tell other calls apart. Here it is unused.
     if source == 1 {
         if immediate == -1 {
             return "calls another function (src_reg 1), whose place clang left to a linker";

@@ -4,7 +4,7 @@ use Rattle.std.specs.Prelude.{option_map, option_and_then, Result, Ok, Err, code
 use Rattle.std.specs.List.{after_first, before_first, position_or_len}
 use Rattle.std.specs.Str.{is_utf8}
 use Rattle.std.specs.Str.Lines.{lines}
-use Rattle.decimal.specs.Numeral.{decimal_in}
+use Rattle.numerals.specs.Numeral.{decimal_in}
 use Rattle.listing_lines.specs.declared.source_lines.LinesFault.{LinesFault}
 use Rattle.listing_lines.specs.declared.source_lines.SourceLineFaultKind.{SourceLineFaultKind}
 use Rattle.listing_lines.specs.declared.source_lines.SourceLineFaultKind.TheVariants.{NotText, WithoutPlace, OutOfOrder}

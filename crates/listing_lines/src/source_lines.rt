@@ -5,7 +5,7 @@ ghost use Rattle.listing_lines.specs.LinesFault as line_fault;
 ghost use Rattle.listing_lines.specs.SourceLines.{IsChecked, checked, line_in, line_of, lines_in, lines_or_none, parts_of, place_in, source_text};
 
 use bpf_assembler::first_line;
-use decimal::decimal_value;
+use numerals::decimal_value;
 use refusals::{Fault, Refusal};
 use std::alloc::{AllocError, Allocator};
 use thiserror::Error;
@@ -168,6 +168,7 @@ fn check(last: usize, line: &[u8]) -> Result<PlacedLine<'_>, SourceLineFaultKind
         return Err(SourceLineFaultKind::NotText);
     };
     match line_in(text) {
+        // Out of order, lines would be shown above the wrong instructions.
         Some(read) if read.place < last => Err(SourceLineFaultKind::OutOfOrder),
         Some(read) => Ok(read),
         None => Err(SourceLineFaultKind::WithoutPlace),

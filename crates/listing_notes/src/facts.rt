@@ -69,6 +69,7 @@ fn is_shown(last: &AbstractState, known: &AbstractState, insn: Insn, part: Part)
     requires part { IsPart part }
     ensures { result ≡ is_shown last.now known.now insn part }
 {
+    // Only these, so that the listing of 65,536 words stays readable. What isn't shown is as it was.
     reads(known, insn, part) || is_changed(last, known, part)
 }
 
@@ -177,6 +178,7 @@ pub fn push_instruction_line<A: Allocator + Copy>(
 ) -> Result<(), AllocError>
     ensures { OnOk result (string_bytes text.new ≡ string_bytes text.old ++ (noted (prefix_text place insn) note.now ++ codes "\n")) }
 {
+    // Made first, since its length says where the note begins.
     let prefix = prefix(alloc, place, insn)?;
     push_noted(text, &prefix, note)?;
     text.push_str("\n")

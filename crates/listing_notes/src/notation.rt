@@ -29,6 +29,7 @@ fn push_interval<A: Allocator>(text: &mut String<A>, x: Interval) -> Result<(), 
     if x.low == 0 && x.high == u64::MAX {
         return text.push_str("any number");
     }
+    // An interval above 2^63 is easier to read as negative numbers.
     let negative = x.low >= 1 << 63;
     push_end(text, negative, x.low)?;
     if x.low != x.high {
@@ -119,6 +120,7 @@ fn push_marks<A: Allocator>(text: &mut String<A>, marks: &[bool]) -> Result<(), 
 fn mark_text(mark: bool) -> &'static str
     ensures { result.now ≡ mark_code mark ∷ [] }
 {
+    // As in the log of Linux's verifier.
     if mark { "m" } else { "?" }
 }
 

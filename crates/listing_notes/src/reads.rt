@@ -1,4 +1,12 @@
 //! The parts of a state that an instruction reads.
+//!
+//! A note shows these parts, besides those that changed. Which registers an instruction reads follows from the instruction table (`bpf_insn`) for
+//! those that its fields name, and from the signatures (`bpf_helpers`) for the arguments of a call, so neither a new instruction nor a new helper
+//! function needs a line here. Bytes are counted as `i128` and may lie outside of their area, because a note is also made for an instruction that is
+//! refused for exactly that.
+//!
+//! Always: a part that isn't shown is unchanged, so the notes together determine the states (`laws::notes_determine_states`). Parts are in the order
+//! of a listing: the registers, then the slots from the frame's end, where programs begin to use it.
 ghost use Rattle.std.specs.Prelude.{◌≡◌, ◌≤◌, ◌<◌, ◌+◌, pos, ◌+ℤ◌, ◌-ℤ◌, ◌++◌, ◌∷◌, [], cond, filter, IfOk, OnOk};
 ghost use Rattle.std.specs.List.{All};
 ghost use Rattle.bpf_verify.specs.LiftedState.{IsProperState, kind_of};

@@ -14,6 +14,7 @@ const CELLS: usize = (Route::ALL.len() + 1) * Status::ALL.len();
 /// count wraps at 2^64. Contracts see a record.
 #[derive(Drop)]
 pub struct Counters {
+    // An array, so that counting a reply allocates nothing.
     replies: [u64; CELLS],
     judged: u64,
     rows: u64,

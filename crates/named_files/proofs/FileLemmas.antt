@@ -1,8 +1,8 @@
 -- What opening, reading and closing files counts.
-use Rattle.std.proofs.Common.{◌≡◌, ◌≢◌, ℕ, List, Option, Result, Ok, Err, IfErr, MatchResult, inl, inr, subst, sym, ◌∙◌, arith}
+use Rattle.std.proofs.Common.{◌≡◌, ◌≢◌, ℕ, List, Option, Result, Ok, Err, IfErr, MatchResult, inr, subst, sym, ◌∙◌, arith}
 use Rattle.std.specs.Io.KnownBytes.{Keeps}
 use Rattle.named_files.specs.Files.{CountsClose, CountsProgramFault, Disk, HasFailedRead, IsUnfailed, KeepsCounts, OpenResults, ReadCounts}
-use Rattle.named_files.specs.Files.{CountsFileFault, CountsFileResult, CountsProgramUse, CountsUseResult, IsOpenFault, IsProgramUseFault, IsUseFault}
+use Rattle.named_files.specs.Files.{CountsFileResult, CountsProgramUse, CountsUseResult, IsProgramUseFault, IsUseFault}
 use Rattle.named_files.specs.declared.files.FileFault.{FileFault}
 use Rattle.named_files.specs.declared.files.FileFault.TheVariants.{Unusable, Memory}
 use Rattle.named_files.specs.declared.files.ProgramInputFault.{ProgramInputFault}
@@ -75,9 +75,3 @@ module _ (name : List ℕ) (disk disk' : Disk) {before after : ℕ} {between : R
     read_program_fault (Err (File (Unusable error))) reads = inr (reader, opened, broken_use reads)
     read_program_fault (Err (File Memory)) reads = tt
     read_program_fault (Err (Code fault)) reads = tt
-
--- the file can't be opened
-pub open_fault : {R : Type 0} (opens : OpenResults R) (name : List ℕ) (disk disk' : Disk) (fault : FileFault) → IsOpenFault (opens name) fault
-    → CountsFileFault fault disk.failed_opens disk'.failed_opens → IsUseFault opens name disk disk' fault
-open_fault opens name disk disk' (Unusable error) is counts = inl (is, counts)
-open_fault opens name disk disk' Memory is counts = tt

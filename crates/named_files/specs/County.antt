@@ -1,13 +1,12 @@
 -- The files of a county in a folder, by name, and the bytes that their readers hold.
-use Rattle.std.specs.Prelude.{◌≡◌, ℕ, List, ◌++◌, codes, Option, ⊤}
-use Rattle.tl_segments.specs.County.{CountyReaders}
-use Rattle.tl_segments.specs.CountyFiles as county_files
+use Rattle.std.specs.Prelude.{◌≡◌, ℕ, Bool, true, false, IsTrue, List, ◌++◌, codes, Option, Some, None, ⊤}
+use Rattle.counted_io.specs.ReaderWriter.{Reader}
+use Rattle.tl_segments.specs.County.{CountyReaders, SegmentReaders}
 use Rattle.tl_segments.specs.Loading.{Readers}
 use Rattle.tl_segments.specs.declared.county_files.CountyFiles.{CountyFiles}
-use Rattle.tl_segments.specs.declared.county_files.JoinedFiles.{JoinedFiles}
 use Rattle.tl_segments.specs.declared.fault.CountyFile.{CountyFile}
 use Rattle.tl_segments.specs.declared.fault.CountyFile.TheVariants.{Rt1, Rt2, Rt4, Rt5, Rt6}
-use Rattle.named_files.specs.Files.{CountsClose, IsNotMissing, IsOpenFault, IsUnread, OpenResults, ReadCounts, input_failed_reads, input_remaining}
+use Rattle.named_files.specs.Files.{CountsClose, IsNotMissing, IsOpenFault, IsUnread, KeepsCounts, OpenResults, ReadCounts}
 use Rattle.named_files.specs.declared.county.CountyFileFault.{CountyFileFault}
 use Rattle.named_files.specs.declared.open_file.FileName.{FileName}
 use Rattle.named_files.specs.declared.open_file.FileName.TheVariants.{Path, OfCounty}
@@ -31,10 +30,10 @@ abbrev pub path_of : FileName → List ℕ
 path_of (Path path) = path.now
 path_of (OfCounty folder code file) = file_name folder.now code.now file
 
--- a county is loaded from this file: from all of its files but that of type 2
-abbrev pub IsLoaded : CountyFile → Type 0
-IsLoaded Rt2 = ⊥
-IsLoaded file = ⊤
+-- a county is loaded from this file: from that of type 2 only if shapes are wanted
+abbrev pub IsLoaded : Bool → CountyFile → Type 0
+IsLoaded shapes Rt2 = IsTrue shapes
+IsLoaded shapes file = ⊤
 
 -- the file isn't taken for an empty one if it doesn't exist
 abbrev pub MustExist : CountyFile → Type 0
@@ -43,33 +42,43 @@ MustExist Rt2 = ⊤
 MustExist file = ⊥
 
 -- this is the name of one of the files in the folder that the county is loaded from
-abbrev pub IsFileOfCounty : List ℕ → List ℕ → List ℕ → Type 0
-IsFileOfCounty folder code name = (file : CountyFile) × IsLoaded file × (name ≡ file_name folder code file)
+abbrev pub IsFileOfCounty : Bool → List ℕ → List ℕ → List ℕ → Type 0
+IsFileOfCounty shapes folder code name = (file : CountyFile) × IsLoaded shapes file × (name ≡ file_name folder code file)
 
--- The readers hold the files of types 4, 5 and 6 of a county in the folder; below, all files of the county.
+-- The readers hold the files of types 4, 5 and 6 of a county in the folder; below, those that its segments are made from, and all of its files, with
+-- that of type 2 if shapes are wanted.
 pub record HoldJoined (known : List ℕ → Option (List ℕ)) (folder code : List ℕ) (readers : Readers) : Type 0 where
   pub rt4 : IsUnread (known (file_name folder code Rt4)) readers.rt4
   pub rt5 : IsUnread (known (file_name folder code Rt5)) readers.rt5
   pub rt6 : IsUnread (known (file_name folder code Rt6)) readers.rt6
 
-pub record HoldCounty (known : List ℕ → Option (List ℕ)) (folder code : List ℕ) (readers : CountyReaders) : Type 0 where
+pub record HoldSegments (known : List ℕ → Option (List ℕ)) (folder code : List ℕ) (readers : SegmentReaders) : Type 0 where
   pub rt1 : IsUnread (known (file_name folder code Rt1)) readers.rt1
   pub joined : HoldJoined known folder code readers.joined
 
--- the readers that a county's inputs hold
-abbrev pub joined_readers : {R : Type 0} → (R → Option (List ℕ)) → (R → ℕ) → JoinedFiles (Input R) → Readers
-joined_readers remaining failed_reads inputs = county_files.joined_readers (input_remaining remaining) (input_failed_reads failed_reads) inputs
+abbrev pub HoldsShapes : Bool → Option (List ℕ) → Option Reader → Type 0
+HoldsShapes true known (Some reader) = IsUnread known reader
+HoldsShapes false known None = ⊤
+HoldsShapes shapes known rt2 = ⊥
 
-abbrev pub county_readers : {R : Type 0} → (R → Option (List ℕ)) → (R → ℕ) → CountyFiles (Input R) → CountyReaders
-county_readers remaining failed_reads inputs = county_files.county_readers (input_remaining remaining) (input_failed_reads failed_reads) inputs
+pub record HoldCounty (shapes : Bool) (known : List ℕ → Option (List ℕ)) (folder code : List ℕ) (readers : CountyReaders) : Type 0 where
+  pub segments : HoldSegments known folder code readers.segments
+  pub rt2 : HoldsShapes shapes (known (file_name folder code Rt2)) readers.shapes
 
--- the input has a file
+-- the inputs have the files that must exist
 abbrev pub IsOpened : {R : Type 0} → Input R → Type 0
 IsOpened (input.Opened reader) = ⊤
 IsOpened input.Nothing = ⊥
 
+abbrev pub IsOpenedIfAny : {R : Type 0} → Option (Input R) → Type 0
+IsOpenedIfAny (Some input) = IsOpened input
+IsOpenedIfAny None = ⊤
+
+abbrev pub AreOpened : {R : Type 0} → CountyFiles (Input R) → Type 0
+AreOpened inputs = IsOpened inputs.rt1 × IsOpenedIfAny inputs.shapes
+
 -- what closing the readers of the county of this code counts, one after the other, each by the name of its file
-pub record ClosesCounty (folder code : List ℕ) (readers : CountyReaders) (failed failed' : ReadCounts) : Type 0 where
+pub record ClosesSegments (folder code : List ℕ) (readers : SegmentReaders) (failed failed' : ReadCounts) : Type 0 where
   pub after_rt1 : ReadCounts
   pub rt1 : CountsClose (file_name folder code Rt1) readers.rt1.failed failed after_rt1
   pub after_rt4 : ReadCounts
@@ -77,6 +86,15 @@ pub record ClosesCounty (folder code : List ℕ) (readers : CountyReaders) (fail
   pub after_rt5 : ReadCounts
   pub rt5 : CountsClose (file_name folder code Rt5) readers.joined.rt5.failed after_rt4 after_rt5
   pub rt6 : CountsClose (file_name folder code Rt6) readers.joined.rt6.failed after_rt5 failed'
+
+abbrev pub ClosesShapes : List ℕ → Option Reader → ReadCounts → ReadCounts → Type 0
+ClosesShapes name (Some reader) failed failed' = CountsClose name reader.failed failed failed'
+ClosesShapes name None failed failed' = KeepsCounts failed failed'
+
+pub record ClosesCounty (folder code : List ℕ) (readers : CountyReaders) (failed failed' : ReadCounts) : Type 0 where
+  pub between : ReadCounts
+  pub segments : ClosesSegments folder code readers.segments failed between
+  pub rt2 : ClosesShapes (file_name folder code Rt2) readers.shapes between failed'
 
 -- Why this file of a county can't be opened: an open of it failed with this error, or memory ran out. Unless the file must exist, it isn't refused for
 -- not existing.
@@ -87,5 +105,5 @@ pub record IsFileOpenFault {R : Type 0} (opens : OpenResults R) (folder code : L
   pub exists : ¬ MustExist file → IsNotMissing fault.fault
 
 -- why one of the files that a county is loaded from can't be opened
-abbrev pub IsCountyOpenFault : {R : Type 0} → OpenResults R → List ℕ → List ℕ → CountyFileFault → Type 0
-IsCountyOpenFault opens folder code fault = IsLoaded fault.file × IsFileOpenFault opens folder code fault.file fault
+abbrev pub IsCountyOpenFault : {R : Type 0} → Bool → OpenResults R → List ℕ → List ℕ → CountyFileFault → Type 0
+IsCountyOpenFault shapes opens folder code fault = IsLoaded shapes fault.file × IsFileOpenFault opens folder code fault.file fault

@@ -9,7 +9,7 @@ use Rattle.bpf_insn.specs.Code.{IsFirstFault}
 use Rattle.bpf_insn.specs.declared.fault.CodeFault.{CodeFault}
 use Rattle.bpf_insn.specs.declared.fault.CodeFault.TheVariants as code_fault
 use Rattle.bpf_insn.specs.declared.code.TheConstants.{MAX_WORDS}
-use Rattle.counted_io.specs.ReaderWriter.{Reader, reader}
+use Rattle.counted_io.specs.ReaderWriter.{Reader}
 use Rattle.named_files.specs.declared.files.FileFault.{FileFault}
 use Rattle.named_files.specs.declared.files.FileFault.TheVariants.{Unusable, Memory}
 use Rattle.named_files.specs.declared.files.ProgramInputFault.{ProgramInputFault}
@@ -47,13 +47,13 @@ OpensOptional HasResult (Ok (Some reader)) = HasResult (Ok reader)
 OpensOptional HasResult (Ok None) = (error : Error) × HasResult (Err error) × (error_kind error ≡ NotFound)
 OpensOptional HasResult (Err error) = HasResult (Err error) × (error_kind error ≢ NotFound)
 
--- the bytes that an opened reader has left, if they are known; none if there is no file
-abbrev pub optional_remaining : {R : Type 0} → (R → Option (List ℕ)) → Option R → Option (List ℕ)
-optional_remaining remaining opened = option_map_or remaining opened (Some [])
+-- an empty file, none of whose reads has failed
+abbrev pub nothing : Reader
+nothing = record { left = Some []; failed = 0 }
 
--- the number of its failed reads; none if there is no file
-abbrev pub optional_failed_reads : {R : Type 0} → (R → ℕ) → Option R → ℕ
-optional_failed_reads failed_reads opened = option_map_or failed_reads opened 0
+-- an opened reader; nothing if there is no file
+abbrev pub optional_reader : {R : Type 0} → (R → Reader) → Option R → Reader
+optional_reader reader opened = option_map_or reader opened nothing
 
 -- a file is unusable exactly if a call on it failed, which its count shows
 abbrev pub CountsFileFault : FileFault → ℕ → ℕ → Type 0
@@ -64,35 +64,22 @@ abbrev pub CountsFileResult : {T : Type 0} → Result T FileFault → ℕ → �
 CountsFileResult (Ok value) failed failed' = failed' ≡ failed
 CountsFileResult (Err fault) failed failed' = CountsFileFault fault failed failed'
 
--- the bytes that an input has left, if they are known
-abbrev pub input_remaining : {R : Type 0} → (R → Option (List ℕ)) → Input R → Option (List ℕ)
-input_remaining remaining (input.Opened reader) = remaining reader
-input_remaining remaining input.Nothing = Some []
-
--- the number of an input's failed reads; none for an empty input
-abbrev pub input_failed_reads : {R : Type 0} → (R → ℕ) → Input R → ℕ
-input_failed_reads failed_reads (input.Opened reader) = failed_reads reader
-input_failed_reads failed_reads input.Nothing = 0
-
 -- the reader of an input
-abbrev pub input_reader : {R : Type 0} → (R → Option (List ℕ)) → (R → ℕ) → Input R → Reader
-input_reader remaining failed_reads input = reader (input_remaining remaining) (input_failed_reads failed_reads) input
+abbrev pub input_reader : {R : Type 0} → (R → Reader) → Input R → Reader
+input_reader reader (input.Opened r) = reader r
+input_reader reader input.Nothing = nothing
 
 -- a reader whose remaining bytes agree with what is known of them, and none of whose reads has failed
 pub record IsUnread (known : Option (List ℕ)) (reader : Reader) : Type 0 where
   pub left : Keeps known reader.left
   pub failed : reader.failed ≡ 0
 
--- the files: what is known of their bytes, by name; the count of failed opens; and the counts of closed readers with a failed read, by name
+-- The files: the bytes of the file of each name, if they are known; the count of failed opens, except those that ran out of memory; and the counts of
+-- closed readers with a failed read, by name. A file that doesn't exist has no bytes, or unknown ones. Counts are modulo 2^64.
 pub record Disk : Type 0 where
   pub known : List ℕ → Option (List ℕ)
   pub failed_opens : ℕ
   pub failed_reads : ReadCounts
-
--- the value of the files, from the members of their trait
-abbrev pub disk : {F : Type 0} → (F → List ℕ → Option (List ℕ)) → (F → ℕ) → (F → ReadCounts) → F → Disk
-disk bytes failed_opens failed_reads files =
-    record { known = bytes files; failed_opens = failed_opens files; failed_reads = failed_reads files }
 
 -- no open and no read failed
 pub record IsUnfailed (disk disk' : Disk) : Type 0 where

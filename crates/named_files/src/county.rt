@@ -1,19 +1,14 @@
 //! The files of a county (TIGER/Line 2006, record types 1, 2, 4, 5 and 6), opened by name.
-ghost use Rattle.std.specs.Prelude.{◌≡◌, IfErr, IfOk, string_bytes};
-ghost use Rattle.named_files.specs.County.{ClosesCounty, HoldCounty, HoldJoined, IsCountyOpenFault, IsFileOpenFault, IsOpened, MustExist, county_readers, file_name, joined_readers, name_end};
-ghost use Rattle.named_files.specs.Files.{Closes, CountsClose, IsUnread, Opens, disk, input_failed_reads, input_reader};
+ghost use Rattle.std.specs.Prelude.{◌≡◌, IfErr, IfOk, false, option_map, string_bytes};
+ghost use Rattle.named_files.specs.County.{AreOpened, ClosesCounty, ClosesSegments, HoldCounty, HoldJoined, HoldsShapes, IsCountyOpenFault, IsFileOpenFault, IsOpened, IsOpenedIfAny, MustExist, file_name, name_end};
+ghost use Rattle.named_files.specs.Files.{Closes, CountsClose, IsUnread, Opens, input_reader};
+ghost use Rattle.tl_segments.specs.County.{county_readers, joined_readers};
 ghost use Rattle.named_files.specs.declared.files.FileFault.TheVariants.{Memory};
 
 use crate::files::{FileFault, Files, Input, open, open_optional};
 use crate::open_file::{FileName, OpenFile};
 use std::alloc::{AllocError, Allocator};
 use tl_segments::{CountyFile, CountyFiles, JoinedFiles};
-
-/// The input for one of a county's files.
-pub type CountyInput<R> = Input<R>;
-
-/// The inputs for the four files that a county is loaded from.
-pub type CountyInputs<R> = CountyFiles<CountyInput<R>>;
 
 /// Why a county's file can't be opened.
 #[derive(Clone, Copy)]
@@ -22,49 +17,66 @@ pub struct CountyFileFault {
     pub fault: FileFault,
 }
 
-/// Opens the files of a county in the data folder, those of types 1, 4, 5 and 6, in this order. The type 1 file must exist. Each of the others is
-/// an empty input if it doesn't exist.
+/// Opens the files of a county in the data folder: those of types 1, 4, 5 and 6, in this order, and then that of type 2 if shapes are wanted. Those of
+/// types 1 and 2 must exist. Each of the others is an empty input if it doesn't exist. If one of them can't be opened, closes those that are open.
 pub fn open_county<A: Allocator + Copy, F: Files>(
     alloc: A,
     files: &mut F,
     folder: &str,
     code: &str,
-) -> Result<CountyInputs<F::Reader>, CountyFileFault>
-    ensures hold { IfOk result (λ inputs. HoldCounty (F.bytes files.old) folder.now code.now
-        (county_readers F.Reader.remaining F.Reader.failed_reads inputs)) }
-    ensures is_open { IfOk result (λ inputs. IsOpened inputs.rt1) }
-    ensures fault { IfErr result (IsCountyOpenFault F.opens folder.now code.now) }
-    ensures opens { Opens result (λ fault. fault.fault) (disk F.bytes F.failed_opens F.failed_reads files.old)
-        (disk F.bytes F.failed_opens F.failed_reads files.new) }
+    shapes: bool,
+) -> Result<CountyFiles<Input<F::Reader>>, CountyFileFault>
+    ensures hold { IfOk result (λ inputs. HoldCounty shapes (F.disk files.old).known folder.now code.now
+        (county_readers (input_reader F.Reader.reader) inputs)) }
+    ensures are_open { IfOk result AreOpened }
+    ensures fault { IfErr result (IsCountyOpenFault shapes F.opens folder.now code.now) }
+    ensures opens { Opens result (λ fault. fault.fault) (F.disk files.old) (F.disk files.new) }
 {
     let rt1 = match open_file(alloc, files, folder, code, CountyFile::Rt1) {
         Ok(input) => input,
         Err(fault) => return Err(fault),
     };
-    match open_joined(alloc, files, folder, code) {
-        Ok(joined) => Ok(CountyFiles { rt1, joined }),
+    let joined = match open_joined(alloc, files, folder, code) {
+        Ok(joined) => joined,
         Err(fault) => {
             close_file(files, folder, code, CountyFile::Rt1, rt1);
+            return Err(fault);
+        }
+    };
+    match open_shapes(alloc, files, folder, code, shapes) {
+        Ok(shapes) => Ok(CountyFiles {
+            rt1,
+            joined,
+            shapes,
+        }),
+        Err(fault) => {
+            close_segments(files, folder, code, rt1, joined);
             Err(fault)
         }
     }
 }
 
-/// Opens the file of type 2 of a county in the data folder, which has the shapes of its segments. It must exist.
-pub fn open_shapes<A: Allocator + Copy, F: Files>(
+/// Opens the file of type 2 if shapes are wanted. It must exist.
+fn open_shapes<A: Allocator + Copy, F: Files>(
     alloc: A,
     files: &mut F,
     folder: &str,
     code: &str,
-) -> Result<Input<F::Reader>, CountyFileFault>
-    ensures hold { IfOk result (λ input. IsUnread (F.bytes files.old (file_name folder.now code.now CountyFile.Rt2))
-        (input_reader F.Reader.remaining F.Reader.failed_reads input)) }
-    ensures is_open { IfOk result IsOpened }
-    ensures fault { IfErr result (IsFileOpenFault F.opens folder.now code.now CountyFile.Rt2) }
-    ensures opens { Opens result (λ fault. fault.fault) (disk F.bytes F.failed_opens F.failed_reads files.old)
-        (disk F.bytes F.failed_opens F.failed_reads files.new) }
+    shapes: bool,
+) -> Result<Option<Input<F::Reader>>, CountyFileFault>
+    ensures hold { IfOk result (λ input. HoldsShapes shapes ((F.disk files.old).known (file_name folder.now code.now CountyFile.Rt2))
+        (option_map (input_reader F.Reader.reader) input)) }
+    ensures is_open { IfOk result IsOpenedIfAny }
+    ensures fault { IfErr result (IsCountyOpenFault shapes F.opens folder.now code.now) }
+    ensures opens { Opens result (λ fault. fault.fault) (F.disk files.old) (F.disk files.new) }
 {
-    open_file(alloc, files, folder, code, CountyFile::Rt2)
+    if !shapes {
+        return Ok(None);
+    }
+    match open_file(alloc, files, folder, code, CountyFile::Rt2) {
+        Ok(input) => Ok(Some(input)),
+        Err(fault) => Err(fault),
+    }
 }
 
 /// Opens the files whose lines are joined to those of type 1. If one of them can't be opened, closes those that are open.
@@ -74,11 +86,10 @@ fn open_joined<A: Allocator + Copy, F: Files>(
     folder: &str,
     code: &str,
 ) -> Result<JoinedFiles<Input<F::Reader>>, CountyFileFault>
-    ensures hold { IfOk result (λ inputs. HoldJoined (F.bytes files.old) folder.now code.now
-        (joined_readers F.Reader.remaining F.Reader.failed_reads inputs)) }
-    ensures fault { IfErr result (IsCountyOpenFault F.opens folder.now code.now) }
-    ensures opens { Opens result (λ fault. fault.fault) (disk F.bytes F.failed_opens F.failed_reads files.old)
-        (disk F.bytes F.failed_opens F.failed_reads files.new) }
+    ensures hold { IfOk result (λ inputs. HoldJoined (F.disk files.old).known folder.now code.now
+        (joined_readers (input_reader F.Reader.reader) inputs)) }
+    ensures fault { IfErr result (IsCountyOpenFault false F.opens folder.now code.now) }
+    ensures opens { Opens result (λ fault. fault.fault) (F.disk files.old) (F.disk files.new) }
 {
     let rt4 = match open_file(alloc, files, folder, code, CountyFile::Rt4) {
         Ok(input) => input,
@@ -109,12 +120,11 @@ fn open_file<A: Allocator + Copy, F: Files>(
     code: &str,
     file: CountyFile,
 ) -> Result<Input<F::Reader>, CountyFileFault>
-    ensures known { IfOk result (λ input. IsUnread (F.bytes files.old (file_name folder.now code.now file))
-        (input_reader F.Reader.remaining F.Reader.failed_reads input)) }
+    ensures known { IfOk result (λ input. IsUnread ((F.disk files.old).known (file_name folder.now code.now file))
+        (input_reader F.Reader.reader input)) }
     ensures is_open { IfOk result (λ input. MustExist file → IsOpened input) }
     ensures fault { IfErr result (IsFileOpenFault F.opens folder.now code.now file) }
-    ensures opens { Opens result (λ fault. fault.fault) (disk F.bytes F.failed_opens F.failed_reads files.old)
-        (disk F.bytes F.failed_opens F.failed_reads files.new) }
+    ensures opens { Opens result (λ fault. fault.fault) (F.disk files.old) (F.disk files.new) }
 {
     let Ok(name) = file_name(alloc, folder, code, file) else {
         let fault = FileFault::Memory;
@@ -125,6 +135,7 @@ fn open_file<A: Allocator + Copy, F: Files>(
             Ok(OpenFile { name: _, reader }) => Ok(Input::Opened(reader)),
             Err(fault) => Err(CountyFileFault { file, fault }),
         },
+        // Some counties have none.
         CountyFile::Rt4 | CountyFile::Rt5 | CountyFile::Rt6 => match open_optional(
             files,
             name.as_str(),
@@ -140,25 +151,40 @@ pub fn close_county<F: Files>(
     files: &mut F,
     folder: &str,
     code: &str,
-    inputs: CountyInputs<F::Reader>,
+    inputs: CountyFiles<Input<F::Reader>>,
 )
-    ensures { Closes (ClosesCounty folder.now code.now (county_readers F.Reader.remaining F.Reader.failed_reads inputs))
-        (disk F.bytes F.failed_opens F.failed_reads files.old) (disk F.bytes F.failed_opens F.failed_reads files.new) }
+    ensures { Closes (ClosesCounty folder.now code.now (county_readers (input_reader F.Reader.reader) inputs)) (F.disk files.old) (F.disk files.new) }
 {
-    let CountyFiles { rt1, joined } = inputs;
+    let CountyFiles {
+        rt1,
+        joined,
+        shapes,
+    } = inputs;
+    close_segments(files, folder, code, rt1, joined);
+    match shapes {
+        Some(rt2) => close_file(files, folder, code, CountyFile::Rt2, rt2),
+        None => {}
+    }
+}
+
+/// Closes the inputs that a county's segments are made from.
+fn close_segments<F: Files>(
+    files: &mut F,
+    folder: &str,
+    code: &str,
+    rt1: Input<F::Reader>,
+    joined: JoinedFiles<Input<F::Reader>>,
+)
+    ensures { Closes (ClosesSegments folder.now code.now (record {
+      rt1 = input_reader F.Reader.reader rt1;
+      joined = joined_readers (input_reader F.Reader.reader) joined;
+    })) (F.disk files.old) (F.disk files.new) }
+{
     let JoinedFiles { rt4, rt5, rt6 } = joined;
     close_file(files, folder, code, CountyFile::Rt1, rt1);
     close_file(files, folder, code, CountyFile::Rt4, rt4);
     close_file(files, folder, code, CountyFile::Rt5, rt5);
     close_file(files, folder, code, CountyFile::Rt6, rt6);
-}
-
-/// Closes the input that [`open_shapes`] opened with this folder and code.
-pub fn close_shapes<F: Files>(files: &mut F, folder: &str, code: &str, input: Input<F::Reader>)
-    ensures { Closes (CountsClose (file_name folder.now code.now CountyFile.Rt2) (input_failed_reads F.Reader.failed_reads input))
-        (disk F.bytes F.failed_opens F.failed_reads files.old) (disk F.bytes F.failed_opens F.failed_reads files.new) }
-{
-    close_file(files, folder, code, CountyFile::Rt2, input);
 }
 
 /// Closes the input for a county's file.
@@ -169,8 +195,8 @@ fn close_file<F: Files>(
     file: CountyFile,
     input: Input<F::Reader>,
 )
-    ensures { Closes (CountsClose (file_name folder.now code.now file) (input_failed_reads F.Reader.failed_reads input))
-        (disk F.bytes F.failed_opens F.failed_reads files.old) (disk F.bytes F.failed_opens F.failed_reads files.new) }
+    ensures { Closes (CountsClose (file_name folder.now code.now file) (input_reader F.Reader.reader input).failed)
+        (F.disk files.old) (F.disk files.new) }
 {
     match input {
         Input::Opened(reader) => {

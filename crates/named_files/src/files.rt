@@ -1,13 +1,21 @@
 //! The files that a command reads, by name.
-ghost use Rattle.std.specs.Prelude.{◌≡◌, ◌≤◌, ◌*◌, ◌%◌, ℕ, List, ◌++◌, length, take, Option, IfOk, IfErr, MatchOption, MatchResult, None, Result, Ok, Err, Some, ⊤};
+//!
+//! Files are a trait, so that commands are proved for any files and tests can inject a failure into each open and read. What a file holds can't be
+//! known, so a contract says which name was opened, which bytes it had if they are known, and how many opens and reads failed. Failed reads are
+//! counted by the name of the file, so that no command reports one file and reads another: a reader can't be dropped, only closed, and an `OpenFile`
+//! keeps reader and name together, since a reader alone could be closed under any name.
+//!
+//! Always: each reader that was opened is closed once, on every path. No read is repeated. A program is read to its end however long it is, since 11
+//! NotWhole and 12 TooLong depend on its length, but never more of it is kept than has the same first fault; a text is read up to its limit only,
+//! which decides alone. Only the system's "not found" counts as a missing file.
+ghost use Rattle.std.specs.Prelude.{◌≡◌, ◌≤◌, ◌*◌, ◌%◌, ℕ, List, ◌++◌, length, refl, take, Option, IfOk, IfErr, MatchOption, MatchResult, None, Result, Ok, Err, Some, ⊤};
 ghost use Rattle.std.specs.Io.{ReadsAtMost};
 ghost use Rattle.std.specs.Io.Buffered.{reader_inner};
 ghost use Rattle.std.specs.Io.KnownBytes.{Keeps, ReadConsumes};
 ghost use Rattle.std.specs.declared.io.Error.{Error};
 ghost use Rattle.counted_io.specs.Counting.{CountsFailure};
-ghost use Rattle.counted_io.specs.ReaderWriter.{reader};
 ghost use Rattle.named_files.specs.County.{path_of};
-ghost use Rattle.named_files.specs.Files.{CountsOpen, CountsProgramFault, IsLong, IsNotMissing, IsOpenFault, IsPrefix, IsProgramUseFault, IsShort, IsTooLong, IsUseFault, IsUnread, Opens, OpensOptional, OpensReader, CountsFileResult, IsProgramInputFault, CountsProgramUse, CountsUseResult, disk, input_reader};
+ghost use Rattle.named_files.specs.Files.{CountsOpen, CountsProgramFault, IsLong, IsNotMissing, IsOpenFault, IsPrefix, IsProgramUseFault, IsShort, IsTooLong, IsUseFault, IsUnread, Opens, OpensOptional, OpensReader, CountsFileResult, IsProgramInputFault, CountsProgramUse, CountsUseResult, input_reader};
 ghost use Rattle.named_files.specs.declared.files.FileFault.TheVariants.{Memory};
 ghost use Rattle.named_files.specs.declared.files.ProgramInputFault.TheVariants.{File};
 ghost use Rattle.named_files.specs.declared.files.TheConstants.{MAX_STORED_BYTES};
@@ -58,46 +66,41 @@ impl From<AllocError> for ProgramInputFault {
 /// Files, opened by name.
 pub trait Files {
     ghost use Rattle.named_files.specs.County.{path_of};
-    ghost use Rattle.named_files.specs.Files.{CountsClose, CountsOpen, KeepsCounts, OpensOptional, ReadCounts, optional_failed_reads, optional_remaining};
+    ghost use Rattle.named_files.specs.Files.{CountsClose, CountsOpen, Disk, KeepsCounts, OpensOptional, optional_reader};
 
     // It can't be dropped: each opened reader must be closed, so no failed read goes unnoticed.
     type Reader: CountedRead;
 
-    // The bytes of the file of this name, if they are known. A file that doesn't exist has no bytes, or unknown ones.
-    ghost bytes: { Self → List ℕ → Option (List ℕ) } = { λ _ _. None };
-
     // An open of the file of this name had this result.
     ghost opens: { List ℕ → Result Self.Reader Error → Type 0 } = { λ _ _. ⊤ };
 
-    // The number of failed opens, except those that ran out of memory, modulo 2^64.
-    ghost failed_opens: { Self → ℕ };
-
-    // The number of closed readers with a failed read, by the name of their file, modulo 2^64.
-    ghost failed_reads: { Self → ReadCounts };
+    // The files as contracts see them.
+    ghost disk: { Self → Disk };
 
     /// Opens a file for reading and returns a reader with its own buffer.
     fn open(&mut self, name: &str) -> io::Result<Self::Reader>
         ensures opened { opens name.now result }
-        ensures known { IfOk result (λ reader. Keeps (bytes self.old name.now) (Self.Reader.remaining reader)) }
-        ensures unread { IfOk result (λ reader. Self.Reader.failed_reads reader ≡ 0) }
-        ensures stay { (other : List ℕ) → bytes self.new other ≡ bytes self.old other }
-        ensures failures { CountsOpen result (failed_opens self.old) (failed_opens self.new) }
-        ensures reads { KeepsCounts (failed_reads self.old) (failed_reads self.new) };
+        ensures known { IfOk result (λ reader. Keeps ((disk self.old).known name.now) (Self.Reader.reader reader).left) }
+        ensures unread { IfOk result (λ reader. (Self.Reader.reader reader).failed ≡ 0) }
+        ensures stay { (other : List ℕ) → (disk self.new).known other ≡ (disk self.old).known other }
+        ensures failures { CountsOpen result (disk self.old).failed_opens (disk self.new).failed_opens }
+        ensures reads { KeepsCounts (disk self.old).failed_reads (disk self.new).failed_reads };
 
     /// Opens a file for reading. Returns `None` if it doesn't exist; any other failure is an error.
     fn open_optional(&mut self, name: &str) -> io::Result<Option<Self::Reader>>
         ensures opened { OpensOptional (opens name.now) result }
-        ensures known { IfOk result (λ opened. Keeps (bytes self.old name.now) (optional_remaining Self.Reader.remaining opened)) }
-        ensures unread { IfOk result (λ opened. optional_failed_reads Self.Reader.failed_reads opened ≡ 0) }
-        ensures stay { (other : List ℕ) → bytes self.new other ≡ bytes self.old other }
-        ensures failures { CountsOpen result (failed_opens self.old) (failed_opens self.new) }
-        ensures reads { KeepsCounts (failed_reads self.old) (failed_reads self.new) };
+        ensures known { IfOk result (λ opened. Keeps ((disk self.old).known name.now) (optional_reader Self.Reader.reader opened).left) }
+        ensures unread { IfOk result (λ opened. (optional_reader Self.Reader.reader opened).failed ≡ 0) }
+        ensures stay { (other : List ℕ) → (disk self.new).known other ≡ (disk self.old).known other }
+        ensures failures { CountsOpen result (disk self.old).failed_opens (disk self.new).failed_opens }
+        ensures reads { KeepsCounts (disk self.old).failed_reads (disk self.new).failed_reads };
 
     /// Closes a file.
     fn close(&mut self, file: OpenFile<'_, Self::Reader>)
-        ensures stay { (other : List ℕ) → bytes self.new other ≡ bytes self.old other }
-        ensures opens { failed_opens self.new ≡ failed_opens self.old }
-        ensures reads { CountsClose (path_of file.entry.name) (Self.Reader.failed_reads file.entry.reader) (failed_reads self.old) (failed_reads self.new) };
+        ensures stay { (other : List ℕ) → (disk self.new).known other ≡ (disk self.old).known other }
+        ensures opens { (disk self.new).failed_opens ≡ (disk self.old).failed_opens }
+        ensures reads { CountsClose (path_of file.entry.name) (Self.Reader.reader file.entry.reader).failed
+            (disk self.old).failed_reads (disk self.new).failed_reads };
 }
 
 /// A file system, which opens files by name. No contract says which bytes a file has, but this one says which name was opened.
@@ -161,9 +164,7 @@ impl<S: FileSystem + AllocGlobal> Files for SystemFiles<'_, S> {
 
     ghost opens = { λ name. OpensReader (S.opens name) (λ reader. reader_inner reader.reader) };
 
-    ghost failed_opens = { λ files. files.failed_opens };
-
-    ghost failed_reads = { λ files name. files.failed_reads };
+    ghost disk = { λ files. record { known = λ _. None; failed_opens = files.failed_opens; failed_reads = λ _. files.failed_reads } };
 
     fn open(&mut self, name: &str) -> io::Result<Buffered<BufReader<S::File>>> {
         match open_buffered(self.system, name) {
@@ -224,13 +225,11 @@ pub fn open<'a, F: Files>(
     files: &mut F,
     name: &'a str,
 ) -> Result<OpenFile<'a, F::Reader>, FileFault>
-    ensures known { IfOk result (λ file. IsUnread (F.bytes files.old name.now)
-        (reader F.Reader.remaining F.Reader.failed_reads file.reader)) }
+    ensures known { IfOk result (λ file. IsUnread ((F.disk files.old).known name.now) (F.Reader.reader file.reader)) }
     ensures name { IfOk result (λ file. path_of file.name ≡ name.now) }
     ensures opened { IfOk result (λ file. F.opens name.now (Ok file.reader)) }
     ensures fault { IfErr result (IsOpenFault (F.opens name.now)) }
-    ensures opens { Opens result (λ fault. fault) (disk F.bytes F.failed_opens F.failed_reads files.old)
-        (disk F.bytes F.failed_opens F.failed_reads files.new) }
+    ensures opens { Opens result (λ fault. fault) (F.disk files.old) (F.disk files.new) }
 {
     match files.open(name) {
         Ok(reader) => Ok(OpenFile {
@@ -244,12 +243,11 @@ pub fn open<'a, F: Files>(
 
 /// Opens a file, or returns an empty input if it doesn't exist.
 pub fn open_optional<F: Files>(files: &mut F, name: &str) -> Result<Input<F::Reader>, FileFault>
-    ensures known { IfOk result (λ input. IsUnread (F.bytes files.old name.now)
-        (input_reader F.Reader.remaining F.Reader.failed_reads input)) }
+    ensures known { IfOk result (λ input. IsUnread ((F.disk files.old).known name.now)
+        (input_reader F.Reader.reader input)) }
     ensures fault { IfErr result (IsOpenFault (F.opens name.now)) }
     ensures exists { IfErr result IsNotMissing }
-    ensures opens { Opens result (λ fault. fault) (disk F.bytes F.failed_opens F.failed_reads files.old)
-        (disk F.bytes F.failed_opens F.failed_reads files.new) }
+    ensures opens { Opens result (λ fault. fault) (F.disk files.old) (F.disk files.new) }
 {
     match files.open_optional(name) {
         Ok(Some(reader)) => Ok(Input::Opened(reader)),
@@ -267,8 +265,8 @@ pub fn read_to_end<A: Allocator, R: CountedRead>(
     alloc: A,
     reader: &mut R,
 ) -> Result<Vec<u8, A>, FileFault>
-    ensures bytes { IfOk result (λ bytes. Keeps (R.remaining reader.old) (Some bytes.items)) }
-    ensures reads { CountsFileResult result (R.failed_reads reader.old) (R.failed_reads reader.new) }
+    ensures bytes { IfOk result (λ bytes. Keeps (R.reader reader.old).left (Some bytes.items)) }
+    ensures reads { CountsFileResult result (R.reader reader.old).failed (R.reader reader.new).failed }
 {
     let mut bytes = Vec::new(alloc);
     for _ in 0..u64::MAX {
@@ -289,12 +287,10 @@ pub fn read_file<A: Allocator, F: Files>(
     files: &mut F,
     name: &str,
 ) -> Result<Vec<u8, A>, FileFault>
-    ensures known { IfOk result (λ bytes. Keeps (F.bytes files.old name.now) (Some bytes.items)) }
-    ensures stay { (other : List ℕ) → F.bytes files.new other ≡ F.bytes files.old other }
-    ensures fault { IfErr result (IsUseFault F.opens name.now (disk F.bytes F.failed_opens F.failed_reads files.old)
-        (disk F.bytes F.failed_opens F.failed_reads files.new)) }
-    ensures uses { CountsUseResult name.now result (disk F.bytes F.failed_opens F.failed_reads files.old)
-        (disk F.bytes F.failed_opens F.failed_reads files.new) }
+    ensures known { IfOk result (λ bytes. Keeps ((F.disk files.old).known name.now) (Some bytes.items)) }
+    ensures stay { (other : List ℕ) → (F.disk files.new).known other ≡ (F.disk files.old).known other }
+    ensures fault { IfErr result (IsUseFault F.opens name.now (F.disk files.old) (F.disk files.new)) }
+    ensures uses { CountsUseResult name.now result (F.disk files.old) (F.disk files.new) }
 {
     match open(files, name) {
         Ok(mut file) => {
@@ -326,8 +322,8 @@ pub fn read_prefix<A: Allocator, R: CountedRead>(
     reader: &mut R,
     limit: usize,
 ) -> Result<Vec<u8, A>, FileFault>
-    ensures prefix { IfOk result (λ prefix. IsPrefix limit (R.remaining reader.old) prefix.items) }
-    ensures reads { CountsFileResult result (R.failed_reads reader.old) (R.failed_reads reader.new) }
+    ensures prefix { IfOk result (λ prefix. IsPrefix limit (R.reader reader.old).left prefix.items) }
+    ensures reads { CountsFileResult result (R.reader reader.old).failed (R.reader reader.new).failed }
 {
     let mut prefix = Vec::new(alloc);
     for _ in 0..u64::MAX {
@@ -354,12 +350,10 @@ pub fn read_file_prefix<A: Allocator, F: Files>(
     name: &str,
     limit: usize,
 ) -> Result<Vec<u8, A>, FileFault>
-    ensures prefix { IfOk result (λ prefix. IsPrefix limit (F.bytes files.old name.now) prefix.items) }
-    ensures stay { (other : List ℕ) → F.bytes files.new other ≡ F.bytes files.old other }
-    ensures fault { IfErr result (IsUseFault F.opens name.now (disk F.bytes F.failed_opens F.failed_reads files.old)
-        (disk F.bytes F.failed_opens F.failed_reads files.new)) }
-    ensures uses { CountsUseResult name.now result (disk F.bytes F.failed_opens F.failed_reads files.old)
-        (disk F.bytes F.failed_opens F.failed_reads files.new) }
+    ensures prefix { IfOk result (λ prefix. IsPrefix limit ((F.disk files.old).known name.now) prefix.items) }
+    ensures stay { (other : List ℕ) → (F.disk files.new).known other ≡ (F.disk files.old).known other }
+    ensures fault { IfErr result (IsUseFault F.opens name.now (F.disk files.old) (F.disk files.new)) }
+    ensures uses { CountsUseResult name.now result (F.disk files.old) (F.disk files.new) }
 {
     match open(files, name) {
         Ok(mut file) => {
@@ -379,13 +373,11 @@ pub fn read_short_file<A: Allocator, F: Files>(
     name: &str,
     end: usize,
 ) -> Result<Option<Vec<u8, A>>, FileFault>
-    ensures short { IfOk result (λ file. MatchOption file (IsLong end (F.bytes files.old name.now))
-        (λ bytes. IsShort end (F.bytes files.old name.now) bytes.items)) }
-    ensures stay { (other : List ℕ) → F.bytes files.new other ≡ F.bytes files.old other }
-    ensures fault { IfErr result (IsUseFault F.opens name.now (disk F.bytes F.failed_opens F.failed_reads files.old)
-        (disk F.bytes F.failed_opens F.failed_reads files.new)) }
-    ensures uses { CountsUseResult name.now result (disk F.bytes F.failed_opens F.failed_reads files.old)
-        (disk F.bytes F.failed_opens F.failed_reads files.new) }
+    ensures short { IfOk result (λ file. MatchOption file (IsLong end ((F.disk files.old).known name.now))
+        (λ bytes. IsShort end ((F.disk files.old).known name.now) bytes.items)) }
+    ensures stay { (other : List ℕ) → (F.disk files.new).known other ≡ (F.disk files.old).known other }
+    ensures fault { IfErr result (IsUseFault F.opens name.now (F.disk files.old) (F.disk files.new)) }
+    ensures uses { CountsUseResult name.now result (F.disk files.old) (F.disk files.new) }
 {
     let prefix = read_file_prefix(alloc, files, name, end)?;
     if prefix.len() < end {
@@ -421,11 +413,11 @@ pub fn read_program<A: Allocator, R: CountedRead>(
     alloc: A,
     input: &mut R,
 ) -> Result<Vec<u8, A>, ProgramInputFault>
-    ensures program { IfOk result (λ program. Keeps (R.remaining input.old) (Some program.items)
+    ensures program { IfOk result (λ program. Keeps (R.reader input.old).left (Some program.items)
         × (length program.items ≤ 8 * MAX_WORDS)) }
-    ensures refused { IfErr result (IsProgramInputFault (R.remaining input.old)) }
-    ensures reads { MatchResult result (λ _. R.failed_reads input.new ≡ R.failed_reads input.old)
-        (λ fault. CountsProgramFault fault (R.failed_reads input.old) (R.failed_reads input.new)) }
+    ensures refused { IfErr result (IsProgramInputFault (R.reader input.old).left) }
+    ensures reads { MatchResult result (λ _. (R.reader input.new).failed ≡ (R.reader input.old).failed)
+        (λ fault. CountsProgramFault fault (R.reader input.old).failed (R.reader input.new).failed) }
 {
     let mut stored = Vec::with_capacity(alloc, MAX_STORED_BYTES)?;
     let mut remainder = 0;
@@ -453,11 +445,11 @@ impl<R: CountedRead> OpenFile<'_, R> {
     /// Reads a program from the file's position to its end, as [`read_program`] does.
     pub fn read_program<A: Allocator>(&mut self, alloc: A) -> Result<Vec<u8, A>, ProgramInputFault>
         ensures name { self.new.name ≡ self.old.name }
-        ensures program { IfOk result (λ program. Keeps (R.remaining self.old.reader) (Some program.items)
+        ensures program { IfOk result (λ program. Keeps (R.reader self.old.reader).left (Some program.items)
             × (length program.items ≤ 8 * MAX_WORDS)) }
-        ensures refused { IfErr result (IsProgramInputFault (R.remaining self.old.reader)) }
-        ensures reads { MatchResult result (λ _. R.failed_reads self.new.reader ≡ R.failed_reads self.old.reader)
-            (λ fault. CountsProgramFault fault (R.failed_reads self.old.reader) (R.failed_reads self.new.reader)) }
+        ensures refused { IfErr result (IsProgramInputFault (R.reader self.old.reader).left) }
+        ensures reads { MatchResult result (λ _. (R.reader self.new.reader).failed ≡ (R.reader self.old.reader).failed)
+            (λ fault. CountsProgramFault fault (R.reader self.old.reader).failed (R.reader self.new.reader).failed) }
     {
         read_program(alloc, &mut self.reader)
     }
@@ -469,13 +461,11 @@ pub fn read_program_file<A: Allocator, F: Files>(
     files: &mut F,
     name: &str,
 ) -> Result<Vec<u8, A>, ProgramInputFault>
-    ensures known { IfOk result (λ program. Keeps (F.bytes files.old name.now) (Some program.items)) }
-    ensures stay { (other : List ℕ) → F.bytes files.new other ≡ F.bytes files.old other }
-    ensures refused { IfErr result (IsProgramInputFault (F.bytes files.old name.now)) }
-    ensures fault { IfErr result (IsProgramUseFault F.opens name.now (disk F.bytes F.failed_opens F.failed_reads files.old)
-        (disk F.bytes F.failed_opens F.failed_reads files.new)) }
-    ensures uses { CountsProgramUse name.now result (disk F.bytes F.failed_opens F.failed_reads files.old)
-        (disk F.bytes F.failed_opens F.failed_reads files.new) }
+    ensures known { IfOk result (λ program. Keeps ((F.disk files.old).known name.now) (Some program.items)) }
+    ensures stay { (other : List ℕ) → (F.disk files.new).known other ≡ (F.disk files.old).known other }
+    ensures refused { IfErr result (IsProgramInputFault ((F.disk files.old).known name.now)) }
+    ensures fault { IfErr result (IsProgramUseFault F.opens name.now (F.disk files.old) (F.disk files.new)) }
+    ensures uses { CountsProgramUse name.now result (F.disk files.old) (F.disk files.new) }
 {
     match open(files, name) {
         Ok(mut file) => {
@@ -494,15 +484,15 @@ pub enum Input<R> {
 }
 
 impl<R: CountedRead> Read for Input<R> {
-    ghost use Rattle.named_files.specs.Files.{input_remaining, input_failed_reads};
+    ghost use Rattle.named_files.specs.Files.{input_reader};
 
-    ghost remaining = { input_remaining R.remaining };
+    ghost remaining = { λ input. (input_reader R.reader input).left };
 
     #[inline]
     fn read(&mut self, buf: &mut [u8]) -> io::Result<usize>
         ensures bound { ReadsAtMost result buf.new }
-        ensures bytes { ReadConsumes (input_remaining R.remaining self.old) (input_remaining R.remaining self.new) result buf.new }
-        ensures failures { CountsFailure result (input_failed_reads R.failed_reads self.old) (input_failed_reads R.failed_reads self.new) }
+        ensures bytes { ReadConsumes (input_reader R.reader self.old).left (input_reader R.reader self.new).left result buf.new }
+        ensures failures { CountsFailure result (input_reader R.reader self.old).failed (input_reader R.reader self.new).failed }
     {
         match self {
             Input::Opened(reader) => reader.read_counted(buf),
@@ -512,9 +502,11 @@ impl<R: CountedRead> Read for Input<R> {
 }
 
 impl<R: CountedRead> CountedRead for Input<R> {
-    ghost use Rattle.named_files.specs.Files.{input_remaining, input_failed_reads};
+    ghost use Rattle.named_files.specs.Files.{input_reader};
 
-    ghost failed_reads = { input_failed_reads R.failed_reads };
+    ghost reader = { input_reader R.reader };
+
+    ghost same = { λ input. refl };
 
     #[inline]
     fn read_counted(&mut self, buf: &mut [u8]) -> io::Result<usize> {

@@ -1,4 +1,7 @@
 //! The interface of every fault.
+//!
+//! A fault contains the fault of the call that it comes from, so each library can be used alone. Each writes its own `From<AllocError>`, five lines:
+//! neither a derive nor a macro can state the variant that a `?` returns, and a blanket `impl` of `From` is forbidden for types of other crates.
 ghost use Rattle.std.specs.Prelude.{◌≡◌};
 ghost use Rattle.refusals.specs.Refusal.{RefusalParts};
 ghost use Rattle.refusals.specs.Refusal as refusal;

@@ -1,4 +1,14 @@
 //! Refusals, and the only place where their lines of text are composed. Nothing here allocates.
+//!
+//! A refusal is data, one row for each variant of a fault, and this is the only code that lays its line out. So no fault has a text of its own that
+//! could differ, and a contract about a line is one about its row.
+//!
+//! The class is in the row and isn't computed from the number: exit statuses and HTTP statuses follow from the class, and every proof that a refusal
+//! isn't one of I/O would have to go through all numbers. A failed allocation has no number, as it says nothing about the input. Numbers are made
+//! where their faults are.
+//!
+//! Always: a line has at most 64 bytes, in an `ArrayString`, so that running out of memory can be reported. Its form, `refused NUMBER POSITION
+//! NAME(DETAIL)`, is read by scripts.
 ghost use Rattle.std.specs.Prelude.{◌≡◌, ◌++◌, ◌+◌, ◌≤◌, codes, decimal, length};
 ghost use Rattle.refusals.specs.Refusal as refusal;
 ghost use Rattle.refusals.specs.Refusal.{detail_text, number_text};
@@ -36,6 +46,7 @@ pub enum Position {
 /// A refusal. Contracts see it as a record of its parts.
 #[derive(Drop)]
 pub struct Refusal {
+    // Not computed from the number, for which proofs about I/O would have to go through all numbers.
     class: Class,
     number: Option<u8>,
     name: &'static str,
@@ -98,6 +109,7 @@ impl Refusal {
     {
         Refusal {
             class: Class::Memory,
+            // It says nothing about the input.
             number: None,
             name: "memory",
             detail: None,

@@ -1,10 +1,6 @@
 -- A read or a write after calls that neither took nor gave a byte.
-use Rattle.std.proofs.Common.{ℕ, List, ◌++◌, take, Option, None, Some, Result, Ok, Err, refl, sym, ◌∙◌, ap}
-use Rattle.std.specs.Io.KnownBytes.{Appends, Consumes, Keeps, ReadConsumes, WriteAppends}
-
-pub keeps_same : (known : Option (List ℕ)) → Keeps known known
-keeps_same None = tt
-keeps_same (Some xs) = refl
+use Rattle.std.proofs.Common.{ℕ, List, take, Option, None, Some, Result, Ok, Err, sym, ◌∙◌}
+use Rattle.std.specs.Io.KnownBytes.{Consumes, Keeps, ReadConsumes}
 
 pub keeps_twice : (a b c : Option (List ℕ)) → Keeps a b → Keeps b c → Keeps a c
 keeps_twice None b c first second = tt
@@ -18,17 +14,7 @@ consumes_after (Some us) None c xs first second = absurd first
 consumes_after (Some us) (Some vs) None xs first second = second
 consumes_after (Some us) (Some vs) (Some ws) xs first second = sym first ∙ second
 
-appends_after : (a b c : Option (List ℕ)) (xs : List ℕ) → Keeps a b → Appends b c xs → Appends a c xs
-appends_after None b c xs first second = tt
-appends_after (Some us) None c xs first second = absurd first
-appends_after (Some us) (Some vs) None xs first second = second
-appends_after (Some us) (Some vs) (Some ws) xs first second = second ∙ ap (λ front. front ++ xs) first
-
 module _ {E : Type 0} (a b c : Option (List ℕ)) where
   pub read_after : (result : Result ℕ E) (buffer : List ℕ) → Keeps a b → ReadConsumes b c result buffer → ReadConsumes a c result buffer
   read_after (Ok count) buffer first second = (consumes_after a b c (take count buffer) first second.0, second.1)
   read_after (Err error) buffer first second = keeps_twice a b c first second
-
-  pub write_after : (result : Result ℕ E) (buffer : List ℕ) → Keeps a b → WriteAppends b c result buffer → WriteAppends a c result buffer
-  write_after (Ok count) buffer first second = appends_after a b c (take count buffer) first second
-  write_after (Err error) buffer first second = keeps_twice a b c first second

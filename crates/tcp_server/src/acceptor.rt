@@ -41,6 +41,7 @@ impl<L: Listener> Acceptor<L> {
             (λ error. FailsToAccept L.accepts error self.old self.new) }
     {
         loop {
+            // No two connections have the same number.
             if self.attempts == u64::MAX {
                 return Err(io::Error::from(ErrorKind::Other));
             }

@@ -98,13 +98,16 @@ impl Socket for ClientSocket<'_> {
         ensures bytes { WriteAppends None None result buf.now }
         ensures timeout { OnOk result (self.new.write_timeout ≡ Some wait) }
     {
+        // The socket blocks here: only `has_unread` changes that, after the reply.
         self.set_write_timeout(wait)?;
         let mut stream = self.stream;
+        // std sends without raising a signal, so a connection that was closed is an error.
         stream.write(buf).map_err(timed_out_if_waited)
     }
 
     // Closing a socket with unread bytes resets the connection, and the client can then lose the reply.
     fn has_unread(&mut self) -> bool {
+        // One look without a wait, so that a client that leaves its side open doesn't hold the server.
         if self.stream.set_nonblocking(true).is_err() {
             return false;
         }

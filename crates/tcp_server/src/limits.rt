@@ -51,6 +51,7 @@ pub fn wait_left(idle: Duration, limit: Duration, elapsed: Duration) -> Option<D
     if limit.as_nanos() <= elapsed.as_nanos() {
         return None;
     }
+    // The timeout of a socket changes only when less than `idle` is left, which saves system calls.
     let left = limit - elapsed;
     Some(if left.as_nanos() < idle.as_nanos() {
         left

@@ -1,6 +1,5 @@
 //! The service of each connection.
 ghost use Rattle.std.specs.Prelude.{◌≡◌, ⊤};
-ghost use Rattle.counted_io.specs.ReaderWriter.{reader, writer};
 ghost use Rattle.tcp_server.specs.Service.{ClientStreams, InputTerms, OutputTerms};
 ghost use Rattle.tcp_server.specs.declared.service.Close.{Close};
 
@@ -48,14 +47,14 @@ pub trait Service {
     fn serve<R: ClientInput, W: ClientOutput>(&mut self, input: &mut R, out: &mut W) -> Close
         ensures { serves
             self.old (record {
-              reader = reader R.remaining R.failed_reads input.old;
-              writer = writer W.contents W.counts out.old;
+              reader = R.reader input.old;
+              writer = W.writer out.old;
               input = R.input_terms input.old;
               output = W.output_terms out.old;
             })
             result self.new (record {
-              reader = reader R.remaining R.failed_reads input.new;
-              writer = writer W.contents W.counts out.new;
+              reader = R.reader input.new;
+              writer = W.writer out.new;
               input = R.input_terms input.new;
               output = W.output_terms out.new;
             }) };

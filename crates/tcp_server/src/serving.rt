@@ -1,4 +1,7 @@
 //! Serving connections one by one, each from its accept to its close.
+//!
+//! One thread, so a service needs no locks. Between two connections the service makes a turn, for the work that isn't for a single client. No failure
+//! of a client ends the loop.
 ghost use Rattle.std.specs.Prelude.{◌≡◌, None, IfErr, OnOk};
 ghost use Rattle.std.specs.Duration.{as_nanos};
 ghost use Rattle.tcp_server.specs.Closing.{Closes, DropsUnread, Lingers};
@@ -35,6 +38,7 @@ pub fn serve_all<L: Listener<Stream = TcpStream>, C: Clock, S: Service>(
         (record { acceptor = acceptor.new; service = service.new }) }
 {
     loop {
+        // Whatever else fails is the client's.
         if let Err(error) = serve_next(acceptor, clock, limits, service) {
             return error;
         }
@@ -97,6 +101,7 @@ fn close_client<H: Socket + Copy, T: Timer + Copy>(
         (record { reads = H.reads; looks = H.looks; ends_output = H.ends_output; shows = T.shows; timer = timer; limit = as_nanos limit })
         close socket.old socket.new }
 {
+    // Closing with unread bytes may lose the reply. Lingering always would hold up the next client.
     let lingers = match close {
         Close::Lingering => true,
         Close::AtOnce => socket.has_unread(),

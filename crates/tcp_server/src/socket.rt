@@ -1,4 +1,7 @@
 //! Sockets, as contracts see them.
+//!
+//! A call is a relation of which nothing is assumed, so contracts say which calls are made, in which order and within which limits. Counts alone
+//! would be satisfied by a server that drops every second connection.
 ghost use Rattle.std.specs.Prelude.{◌≡◌, ℕ, Bool, List, Option, None, ⊤};
 ghost use Rattle.std.specs.Duration.{as_nanos};
 ghost use Rattle.std.specs.Io.{ReadsAtMost, WritesAtMost};

@@ -30,6 +30,7 @@ impl<C: Clock> Timer for &C {
 #[derive(Drop)]
 pub struct Stopwatch<T> {
     timer: T,
+    // Monotonic, so a change of the system's date moves no deadline.
     start: Option<Instant>,
 }
 

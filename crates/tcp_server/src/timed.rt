@@ -49,6 +49,7 @@ impl<H: Socket, T: Timer> Timed<H, T> {
             match self.socket.read_within(wait, buf) {
                 Ok(count) => return Ok(count),
                 Err(error) => {
+                    // A signal is no fault of the client, whose limits still apply.
                     if error.kind() != ErrorKind::Interrupted {
                         return Err(error);
                     }

@@ -14,7 +14,7 @@ use Rattle.std.proofs.Math.Seq.{take-add}
 use Rattle.std.specs.Simd.Lanes.{chunk}
 use mathlib.Core.List.{reverse-cons}
 use Rattle.std.proofs.lemmas.List.{drop-drop, get_or-drop, get_or-take, length-drop, length-reverse, length-take, reverse-reverse}
-use Rattle.decimal.proofs.NumeralLemmas.{decimal_in-below}
+use Rattle.numerals.proofs.NumeralLemmas.{decimal_in-below}
 use Rattle.tl_fields.specs.Field.{field_of}
 use Rattle.tl_fields.specs.Number.{number_of, trim, without_blanks_before}
 

@@ -1,7 +1,7 @@
 -- The coordinate of a field (TIGER/Line 2006, record type 1: longitudes and latitudes, with a sign and an implied decimal point before the
 -- last six digits).
 use Rattle.std.specs.Prelude.{ℕ, ℤ, pos, neg_ℤ, ◌==◌, if◌then◌else◌, List, drop, slice_index, Option, option_map}
-use Rattle.decimal.specs.Numeral.{decimal_in}
+use Rattle.numerals.specs.Numeral.{decimal_in}
 use Rattle.tl_fields.specs.Number.{trim}
 
 -- the amount with a minus sign

@@ -1,7 +1,7 @@
 -- The number of a field (TIGER/Line 2006, record layouts: identification numbers, codes and addresses).
 use Rattle.std.specs.Prelude.{ℕ, Bool, ◌==◌, if◌then◌else◌, List, [], ◌∷◌, reverse, Option}
 use Rattle.std.specs.List.{list_all}
-use Rattle.decimal.specs.Numeral.{decimal_in}
+use Rattle.numerals.specs.Numeral.{decimal_in}
 
 -- the bytes without leading blanks; a blank is the byte 32
 abbrev pub without_blanks_before : List ℕ → List ℕ

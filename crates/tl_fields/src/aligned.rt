@@ -21,6 +21,7 @@ pub fn has_number(line: &[u8], first: usize, last: usize) -> bool
     requires within { last ≤ length line.now }
     ensures { result ≡ is_some (number_of (field_of line.now first last)) }
 {
+    // Most numbers are aligned, and vectors show that in a few instructions. The others are read.
     has_aligned_number(line, first, last) || number(field(line, first, last)).is_some()
 }
 

@@ -1,4 +1,6 @@
 //! A field of a record line, by its columns.
+//!
+//! It isn't named `field`, because a module can't share a name with an item beside it.
 ghost use Rattle.std.specs.Prelude.{◌≡◌, ◌+◌, ◌-◌, ◌≤◌, length};
 ghost use Rattle.tl_fields.specs.Field.{field_of};
 

@@ -1,10 +1,10 @@
 //! The number or the coordinate in a field.
 ghost use Rattle.std.specs.Prelude.{◌≡◌, ◌^◌, ◌<◌, pos, nat_abs, length, reverse, option_map, IfSome};
-ghost use Rattle.decimal.specs.Numeral.{decimal_in};
+ghost use Rattle.numerals.specs.Numeral.{decimal_in};
 ghost use Rattle.tl_fields.specs.Coordinate.{coordinate_in, coordinate_of};
 ghost use Rattle.tl_fields.specs.Number.{is_blank, number_of, trim, without_blanks_before};
 
-use decimal::decimal_value;
+use numerals::decimal_value;
 
 pub(crate) const BLANK: u8 = b' ';
 

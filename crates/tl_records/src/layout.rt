@@ -1,4 +1,13 @@
 //! The table of record types (TIGER/Line 2006, record layouts): the layout of their lines, and the columns of their fields.
+//!
+//! One row for each record type, so that reading, checking and naming the fields of a line is the same code for all of them. Columns are those of the
+//! Bureau's documentation, counted from 1 with both ends inclusive, so that a row can be compared with the page that it is from.
+//!
+//! A record type is a type, not a value, so nothing is decided at run time and a record is always of one type. The layout says which field must have
+//! a number, since a line without it belongs to nothing, and whether the sequence number has to be one, as only in type 2 the order of lines matters.
+//!
+//! Always: each field is within the length of its line, which the contracts of `Places` require and the laws of this crate state column by column. A
+//! field that isn't here (the flags of imputed addresses, for instance) is carried with its record, and has no name.
 ghost use Rattle.std.proofs.Common.{lit≤};
 ghost use Rattle.std.specs.Prelude.{◌≡◌, ◌+◌, ◌-◌, ◌≤◌, length, is_some, IfSome};
 ghost use Rattle.tl_fields.specs.Number.{number_of};

@@ -1,6 +1,7 @@
 //! The lines of a file of records.
+//!
+//! An iterator over lines couldn't lend one buffer for all of them, so a function reads each into a `Line` that the caller keeps.
 ghost use Rattle.std.specs.Prelude.{◌≡◌, ◌-◌, ◌^◌, ◌≤◌, [], length};
-ghost use Rattle.counted_io.specs.ReaderWriter.{reader};
 ghost use Rattle.tl_records.specs.Lines.{IsLineRead, IsWithoutCarriageReturn};
 
 use crate::fault::{LineFault, LineFaultKind};
@@ -64,8 +65,7 @@ impl Line {
 /// after its 231st byte.
 #[inline(always)]
 pub fn read_line<R: CountedRead>(input: &mut R, line: &mut Line) -> Result<Option<()>, LineFault>
-    ensures { IsLineRead line.old line.new
-        (reader R.remaining R.failed_reads input.old) (reader R.remaining R.failed_reads input.new) result }
+    ensures { IsLineRead line.old line.new (R.reader input.old) (R.reader input.new) result }
 {
     read_line_into(input, &mut line.number, &mut line.content)
 }
@@ -78,8 +78,9 @@ pub fn read_line_into<R: CountedRead>(
     content: &mut ArrayVec<u8, MAX_CONTENT_LENGTH>,
 ) -> Result<Option<()>, LineFault>
     ensures { IsLineRead (record { number = number.old; bytes = content.old.items }) (record { number = number.new; bytes = content.new.items })
-        (reader R.remaining R.failed_reads input.old) (reader R.remaining R.failed_reads input.new) result }
+        (R.reader input.old) (R.reader input.new) result }
 {
+    // Into the caller's buffer, so that the record of a segment is checked where it stays.
     if *number == u32::MAX {
         content.clear();
         return expect_end(input);
@@ -119,7 +120,7 @@ pub fn read_line_into<R: CountedRead>(
 #[cold]
 fn expect_end<R: CountedRead>(input: &mut R) -> Result<Option<()>, LineFault>
     ensures { IsLineRead (record { number = 2 ^ 32 - 1; bytes = [] }) (record { number = 2 ^ 32 - 1; bytes = [] })
-        (reader R.remaining R.failed_reads input.old) (reader R.remaining R.failed_reads input.new) result }
+        (R.reader input.old) (R.reader input.new) result }
 {
     let line = FIRST_REFUSED_LINE;
     match input.read_counted(&mut [0]) {

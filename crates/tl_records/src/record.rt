@@ -1,4 +1,6 @@
 //! Records: lines that are good for their record type, the checks that establish it, and their fields.
+//!
+//! A record borrows its line and is made by these checks alone, so whoever has one needs no further check.
 ghost use Rattle.std.specs.Prelude.{◌≡◌, ◌+◌, ◌-◌, ◌^◌, ◌<◌, Some, length, is_some, IfErr, IfOk, IfSome, OnOk};
 ghost use Rattle.tl_fields.specs.Number.{number_of};
 ghost use Rattle.tl_records.specs.Layout.{IsWithin, field_at, type1, type2, type4, type5, type6};
@@ -71,6 +73,7 @@ impl<'a, T: RecordType> Record<'a, T> {
         ensures ok { OnOk result (IsValidLine T.LAYOUT line.now) }
         ensures err { IfErr result (λ fault. IsLineFault T.LAYOUT (record { number = number; bytes = line.now }) fault) }
     {
+        // Only tested, by vectors: the number is read if something may be joined to it.
         match line_fault_kind(T::LAYOUT, line) {
             None => Ok(()),
             Some(flaw) => Err(LineFault {
@@ -121,6 +124,7 @@ impl Record<'_, Type2> {
     {
         match number(Type2::RTSQ.of(self.line)) {
             Some(sequence) => sequence as u16,
+            // `of` has checked it.
             None => unreachable!(),
         }
     }
@@ -182,6 +186,7 @@ fn checked_number(layout: Layout, line: &[u8]) -> Result<u64, LineFaultKind>
 }
 
 /// Returns a line as a record of type 1, or its first flaw: `WrongLength`, `WrongType`, `BadTlid`.
+/// No caller in this program: part of the library's fixed interface.
 pub fn rt1(line: &Line) -> Result<Rt1<'_>, LineFault>
     ensures ok { IfOk result (λ rt1. (rt1.bytes ≡ line.now.bytes) × IsValidLine type1 line.now.bytes) }
     ensures err { IfErr result (λ fault. IsLineFault type1 line.now fault) }
@@ -190,6 +195,7 @@ pub fn rt1(line: &Line) -> Result<Rt1<'_>, LineFault>
 }
 
 /// Returns a line as a record of type 2, or its first flaw: `WrongLength`, `WrongType`, `BadTlid`, `BadSequence`.
+/// No caller in this program: part of the library's fixed interface.
 pub fn rt2(line: &Line) -> Result<Rt2<'_>, LineFault>
     ensures ok { IfOk result (λ rt2. (rt2.bytes ≡ line.now.bytes) × IsValidLine type2 line.now.bytes) }
     ensures err { IfErr result (λ fault. IsLineFault type2 line.now fault) }
@@ -198,6 +204,7 @@ pub fn rt2(line: &Line) -> Result<Rt2<'_>, LineFault>
 }
 
 /// Returns a line as a record of type 4, or its first flaw: `WrongLength`, `WrongType`, `BadTlid`.
+/// No caller in this program: part of the library's fixed interface.
 pub fn rt4(line: &Line) -> Result<Rt4<'_>, LineFault>
     ensures ok { IfOk result (λ rt4. (rt4.bytes ≡ line.now.bytes) × IsValidLine type4 line.now.bytes) }
     ensures err { IfErr result (λ fault. IsLineFault type4 line.now fault) }
@@ -206,6 +213,7 @@ pub fn rt4(line: &Line) -> Result<Rt4<'_>, LineFault>
 }
 
 /// Returns a line as a record of type 5, or its first flaw: `WrongLength`, `WrongType`, `BadFeature`.
+/// No caller in this program: part of the library's fixed interface.
 pub fn rt5(line: &Line) -> Result<Rt5<'_>, LineFault>
     ensures ok { IfOk result (λ rt5. (rt5.bytes ≡ line.now.bytes) × IsValidLine type5 line.now.bytes) }
     ensures err { IfErr result (λ fault. IsLineFault type5 line.now fault) }
@@ -214,6 +222,7 @@ pub fn rt5(line: &Line) -> Result<Rt5<'_>, LineFault>
 }
 
 /// Returns a line as a record of type 6, or its first flaw: `WrongLength`, `WrongType`, `BadTlid`.
+/// No caller in this program: part of the library's fixed interface.
 pub fn rt6(line: &Line) -> Result<Rt6<'_>, LineFault>
     ensures ok { IfOk result (λ rt6. (rt6.bytes ≡ line.now.bytes) × IsValidLine type6 line.now.bytes) }
     ensures err { IfErr result (λ fault. IsLineFault type6 line.now fault) }

@@ -2,11 +2,15 @@
 use Rattle.std.proofs.Common.{◌≡◌, ℕ, ◌+◌, ◌*◌, ◌<◌, ◌≤◌, ◌^◌, ◌==◌, nat_eq, Bool, true, false, cond, if◌then◌else◌, List, [], ◌∷◌, ◌++◌, length, map, drop}
 use Rattle.std.proofs.Common.{All, Option, Some, None, is_some, unwrap_or, slice_index, Result, Ok, Err, IfOk, refl, sym, ap, subst, ◌∙◌, append-nil, length-append, arith}
 use Rattle.std.specs.declared.alloc.AllocError.{AllocError}
+use Rattle.std.specs.BTreeMap.{is_at}
 use Rattle.std.specs.List.{filter, flat_map, insert, range_with_len}
-use Rattle.std.specs.Option.{option_eq}
+use Rattle.std.specs.Map.{lookup}
+use Rattle.std.specs.Option.{option_eq, option_map, option_map_or}
+use Rattle.std.specs.Ordering.{nat_cmp}
 use Rattle.std.proofs.lemmas.Bool.{eq-eqb, eqb-true}
 use Rattle.std.proofs.lemmas.List.{length-map, map-append, nil_from_length}
 use Rattle.std.proofs.lemmas.List.Elements.{All-filter, All-map, All-weaker, filter-append, filter_passes}
+use Rattle.std.proofs.lemmas.Map.Made.{lookup-map_values}
 use Rattle.std.proofs.Math.Seq.{drop-append_seam, take-append_seam}
 use Rattle.tl_fields.specs.Number.{number_of}
 use Rattle.tl_fields.proofs.NumberLemmas.{number_of_lt}
@@ -18,6 +22,7 @@ use Rattle.tl_segments.specs.Joining.{lines_with, number_in}
 use Rattle.tl_segments.specs.Loading.{AreValidLines}
 use Rattle.tl_segments.specs.Shape.{IsPlace, IsTaken, HasDistinctSequences, ShapePartParts, has_sequence, lines_at, part_in, points_in, sequence_in, sequences, shape_lines, shape_parts}
 use Rattle.tl_segments.specs.Shape.{shape_points}
+use Rattle.tl_segments.specs.Shapes.{entries_in, parts_at}
 use Rattle.tl_segments.specs.TableContents.{HoldsShapes, InsertsAt, MatchAddition, list_at}
 use Rattle.tl_segments.specs.declared.county_file.Addition.{Addition}
 use Rattle.tl_segments.specs.declared.county_file.Addition.TheVariants.{Added, OverLimit, Repeated}
@@ -39,6 +44,18 @@ no_parts tlid = ap (map part_in) (none sequences)
     none : (ns : List ℕ) → flat_map (λ s. lines_at tlid s []) ns ≡ []
     none [] = refl
     none (n ∷ ns) = none ns
+
+-- the parts of a TLID's shape are those in the table
+
+mapped_or_none : {X : Type 0} {V : Type 0} (f : X → List V) (found : Option X) → unwrap_or (option_map f found) [] ≡ option_map_or f found []
+mapped_or_none f (Some x) = refl
+mapped_or_none f None = refl
+
+pub parts_in_table : {A : Type 0} (table : MultiMap ShapePartParts A) (tlid : ℕ)
+    → parts_at (record { entries = entries_in table }) tlid ≡ list_at table tlid
+parts_in_table table tlid =
+    ap (λ found. unwrap_or found []) (lookup-map_values (λ list. list.items) (is_at (nat_cmp tlid)) table.lists.entries)
+    ∙ mapped_or_none (λ list. list.items) (lookup (is_at (nat_cmp tlid)) table.lists.entries)
 
 -- Sequence numbers
 

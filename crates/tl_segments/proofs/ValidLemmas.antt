@@ -15,13 +15,13 @@ use Rattle.tl_records.specs.declared.layout.Layout.{Layout}
 use Rattle.tl_records.specs.declared.layout.TheConstants.Type4.{FEAT1, FEAT2, FEAT3, FEAT4, FEAT5}
 use Rattle.tl_records.specs.declared.layout.TheConstants.Type5.{FENAME}
 use Rattle.tl_segments.specs.Affixes.{AreAffixes}
-use Rattle.tl_segments.specs.County.{CountyParts, CountyReaders, LoadsCounty}
+use Rattle.tl_segments.specs.County.{LoadsSegments, SegmentReaders}
 use Rattle.tl_segments.specs.CountyFile.{layout}
 use Rattle.tl_segments.specs.Joining.{JoinedLines, affixes_in, alternate_affixes, alternate_names, feature_affixes, feature_name, features_of}
 use Rattle.tl_segments.specs.Joining.{further_range, further_ranges, has_number, lines_with, number_in, segment_of, segments_of}
 use Rattle.tl_segments.specs.Loading.{AreValidLines, AreValidJoined}
 use Rattle.tl_segments.specs.Range.{AreBytes, IsRange}
-use Rattle.tl_segments.specs.Segment.{IsSegment}
+use Rattle.tl_segments.specs.Segment.{IsSegment, SegmentParts}
 use Rattle.tl_segments.specs.declared.fault.CountyFile.TheVariants.{Rt1, Rt4, Rt5, Rt6}
 use Rattle.tl_segments.specs.declared.name.TheConstants.{NAME_LENGTH}
 use Rattle.tl_segments.proofs.SegmentLemmas.{AreBytes-field_of}
@@ -162,9 +162,9 @@ module _ (joined : JoinedLines) (valid : AreValidJoined joined) where
       (λ line good. with_tlid line (bytes_of_line (layout Rt1) line good) (number_in Rt1 line)) lines are.good)
 
 -- so are those of a county that was loaded
-pub county_segments : (county : CountyParts) (old new : CountyReaders) → LoadsCounty county old new → All IsSegment county.segments
-county_segments county old new loads =
-    subst (All IsSegment) (sym loads.segments) (are_segments loads.joined (record {
+pub loaded_segments : (segments : List SegmentParts) (old new : SegmentReaders) → LoadsSegments segments old new → All IsSegment segments
+loaded_segments segments old new loads =
+    subst (All IsSegment) (sym loads.are_segments) (are_segments loads.joined (record {
       rt4 = loads.reads_joined.rt4.good;
       rt5 = loads.reads_joined.rt5.good;
       rt6 = loads.reads_joined.rt6.good;

@@ -1,7 +1,6 @@
 pub mod Affixes
 pub mod County
 pub mod CountyFile
-pub mod CountyFiles
 pub mod FullName
 pub mod Indexing
 pub mod JoinedLists

@@ -1,7 +1,7 @@
 -- The effect of loading a county's files on their readers, and the first fault of a file.
 use Rattle.std.specs.Prelude.{◌≡◌, ◌≢◌, ℕ, ◌+◌, ◌^◌, ◌<◌, ◌≤◌, ◌⊎◌, List, [], ◌∷◌, ◌++◌, length, All, Option, Some, IfSome, IsSome}
 use Rattle.std.specs.Io.KnownBytes.{IsAtEnd}
-use Rattle.counted_io.specs.ReaderWriter.{Reader, reader}
+use Rattle.counted_io.specs.ReaderWriter.{Reader}
 use Rattle.tl_records.specs.Lines.{IsFirstLine, AreFirstLines, AreLines, BeginsTooLong, FailsWithin, HasOneMoreByte, IfKnown, max_bytes}
 use Rattle.tl_records.specs.Records.{IsValidLine, line_fault_kind}
 use Rattle.tl_records.specs.declared.fault.LineFault.{LineFault}
@@ -124,13 +124,9 @@ pub record Readers : Type 0 where
   pub rt5 : Reader
   pub rt6 : Reader
 
--- their values, built from the members of their trait
-abbrev pub readers : {R : Type 0} → (R → Option (List ℕ)) → (R → ℕ) → R → R → R → Readers
-readers remaining failed_reads rt4 rt5 rt6 = record {
-  rt4 = reader remaining failed_reads rt4;
-  rt5 = reader remaining failed_reads rt5;
-  rt6 = reader remaining failed_reads rt6;
-}
+-- their values
+abbrev pub readers : {R : Type 0} → (R → Reader) → R → R → R → Readers
+readers reader rt4 rt5 rt6 = record { rt4 = reader rt4; rt5 = reader rt5; rt6 = reader rt6 }
 
 -- the files of types 4, 5 and 6 were read to their ends without a fault, and contain these lines
 pub record ReadsJoined (lines : JoinedLines) (old new : Readers) : Type 0 where

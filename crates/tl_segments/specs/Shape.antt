@@ -69,8 +69,11 @@ pub record ShapePartParts : Type 0 where
 abbrev pub part_in : List ℕ → ShapePartParts
 part_in line = record { sequence = unwrap_or (sequence_in line) 0; points = points_in line }
 
--- the parts of a TLID's shape
-abbrev pub shape_parts : List (List ℕ) → ℕ → List ShapePartParts
+-- the parts of the shape of each TLID
+abbrev pub ShapeTable : Type 0
+ShapeTable = ℕ → List ShapePartParts
+
+abbrev pub shape_parts : List (List ℕ) → ShapeTable
 shape_parts rt2 tlid = map part_in (shape_lines rt2 tlid)
 
 -- no two type 2 lines have the same TLID and the same RTSQ

@@ -1,30 +1,36 @@
-//! The segments of a county's files.
-ghost use Rattle.std.specs.Prelude.{◌≡◌, ℕ, ◌^◌, ◌<◌, List, length, IfErr, IfOk, OnOk};
-ghost use Rattle.counted_io.specs.ReaderWriter.{reader};
-ghost use Rattle.tl_segments.specs.County.{AreTlids, HasTlids, IsCountyFault, HoldsSegments, LoadsCounty};
+//! The segments of a county's files, and its shapes.
+//!
+//! The files of types 4, 5 and 6 come first: what is joined has to be known before a segment is made. The numbers of TLIDs are kept next to the
+//! segments, so that a hit's isn't read from its field again. Segments of one TLID share their lists.
+ghost use Rattle.std.specs.Prelude.{◌≡◌, ℕ, ◌^◌, ◌<◌, ◌≤◌, List, None, length, IfErr, IfOk, OnOk};
+ghost use Rattle.tl_segments.specs.County.{AreTlids, HasTlids, HoldsSegments, IsSegmentsFault, LoadsSegments, shapes_in};
 ghost use Rattle.tl_segments.specs.Indexing.{IsIndexOf};
 ghost use Rattle.tl_segments.specs.Joining.{JoinedLines, segments_of};
 ghost use Rattle.tl_segments.specs.Loading.{IsFileFault, readers};
 ghost use Rattle.tl_segments.specs.SharedLists.{HoldsShared};
 ghost use Rattle.tl_segments.specs.Adding.{IsLineAdded, HoldsFile};
 ghost use Rattle.tl_segments.specs.declared.fault.CountyFile.TheVariants.{Rt1};
+ghost use Rattle.tl_segments.specs.declared.limits.TheConstants.{MAX_LINES_PER_TLID};
 
 use crate::county_file::record_in;
 use crate::fault::{CountyFile, LoadFault};
 use crate::index::Index;
 use crate::segment::Segment;
+use crate::shape::ShapePart;
+use crate::shapes::Shapes;
 use crate::shared_lists::SharedLists;
 use counted_io::CountedRead;
 use std::alloc::Allocator;
 use std::marker::Model;
 use tl_records::{Line, Type1, read_line};
 
-/// The segments of a county, one for each line of its type 1 file, in file order: fewer than 2^32. Each segment's TLID has a number. Contracts see it
-/// as a record with the field `segments`.
+/// A county: its segments, one for each line of its type 1 file, in file order and fewer than 2^32, and its shapes, if its type 2 file was loaded. Each
+/// segment's TLID has a number. Contracts see it as a record with the fields `segments` and `shapes`.
 #[derive(Drop)]
 pub struct County<A: Allocator> {
     segments: Vec<Segment<A>, A>,
     tlids: Vec<u64, A>,
+    shapes: Option<Shapes<A>>,
 }
 
 impl<A: Allocator> Model for County<A> {
@@ -33,7 +39,7 @@ impl<A: Allocator> Model for County<A> {
 
     ghost Value = { CountyParts };
 
-    ghost view = { λ county. record { segments = county.segments.items } };
+    ghost view = { λ county. record { segments = county.segments.items; shapes = county.shapes } };
 
     ghost invariant = { λ county. AreTlids county.tlids.items county.segments.items × (length county.segments.items < 2 ^ 32) };
 }
@@ -47,12 +53,13 @@ impl<A: Allocator + Copy> County<A> {
         rt5: &mut R,
         rt6: &mut R,
     ) -> Result<Self, LoadFault>
-        ensures ok { IfOk result (λ county. LoadsCounty county
-            (record { rt1 = reader R.remaining R.failed_reads rt1.old; joined = readers R.remaining R.failed_reads rt4.old rt5.old rt6.old })
-            (record { rt1 = reader R.remaining R.failed_reads rt1.new; joined = readers R.remaining R.failed_reads rt4.new rt5.new rt6.new })) }
-        ensures err { IfErr result (λ fault. IsCountyFault fault
-            (record { rt1 = reader R.remaining R.failed_reads rt1.old; joined = readers R.remaining R.failed_reads rt4.old rt5.old rt6.old })
-            (record { rt1 = reader R.remaining R.failed_reads rt1.new; joined = readers R.remaining R.failed_reads rt4.new rt5.new rt6.new })) }
+        ensures ok { IfOk result (λ county. LoadsSegments county.segments
+            (record { rt1 = R.reader rt1.old; joined = readers R.reader rt4.old rt5.old rt6.old })
+            (record { rt1 = R.reader rt1.new; joined = readers R.reader rt4.new rt5.new rt6.new })) }
+        ensures straight { IfOk result (λ county. county.shapes ≡ None) }
+        ensures err { IfErr result (λ fault. IsSegmentsFault fault
+            (record { rt1 = R.reader rt1.old; joined = readers R.reader rt4.old rt5.old rt6.old })
+            (record { rt1 = R.reader rt1.new; joined = readers R.reader rt4.new rt5.new rt6.new })) }
     {
         let index = Index::load(alloc, rt4, rt5, rt6)?;
         read_segments(alloc, &index, rt1)
@@ -76,6 +83,28 @@ impl<A: Allocator> County<A> {
     {
         self.tlids.as_slice()
     }
+
+    /// Returns the parts of a TLID's shape, one for each of its type 2 lines, in the order of RTSQ. A segment whose TLID has none is a straight line.
+    pub fn shape(&self, tlid: u64) -> &[ShapePart]
+        ensures value { result.now ≡ shapes_in self.now tlid }
+        ensures few { length result.now ≤ MAX_LINES_PER_TLID }
+    {
+        match &self.shapes {
+            Some(shapes) => shapes.parts(tlid),
+            None => &[],
+        }
+    }
+
+    /// Returns the county with other shapes.
+    pub(crate) fn with_shapes(self, shapes: Option<Shapes<A>>) -> Self
+        ensures { result ≡ record self { shapes = shapes } }
+    {
+        County {
+            segments: self.segments,
+            tlids: self.tlids,
+            shapes,
+        }
+    }
 }
 
 /// Reads a type 1 file to its end or its first fault, joining what the index has for each line's TLID. The segments of a TLID share its lists.
@@ -86,9 +115,9 @@ fn read_segments<A: Allocator + Copy, R: CountedRead>(
 ) -> Result<County<A>, LoadFault>
     ensures ok { IfOk result (λ county. HoldsFile Rt1
         (λ lines. (joined : JoinedLines) → IsIndexOf index.now joined → county.segments ≡ segments_of joined lines)
-        (reader R.remaining R.failed_reads input.old) (reader R.remaining R.failed_reads input.new)) }
-    ensures err { IfErr result (λ fault. IsFileFault Rt1 fault
-        (reader R.remaining R.failed_reads input.old) (reader R.remaining R.failed_reads input.new)) }
+        (R.reader input.old) (R.reader input.new)) }
+    ensures straight { IfOk result (λ county. county.shapes ≡ None) }
+    ensures err { IfErr result (λ fault. IsFileFault Rt1 fault (R.reader input.old) (R.reader input.new)) }
 {
     let mut segments = Vec::new(alloc);
     let mut tlids = Vec::new(alloc);
@@ -97,7 +126,13 @@ fn read_segments<A: Allocator + Copy, R: CountedRead>(
     loop {
         match read_line(input, &mut line) {
             Ok(Some(())) => push_segment(index, &line, &mut shared, &mut segments, &mut tlids)?,
-            Ok(None) => return Ok(County { segments, tlids }),
+            Ok(None) => {
+                return Ok(County {
+                    segments,
+                    tlids,
+                    shapes: None,
+                });
+            }
             Err(fault) => return Err(LoadFault::in_line(CountyFile::Rt1, fault)),
         }
     }

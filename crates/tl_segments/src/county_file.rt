@@ -1,6 +1,5 @@
 //! The lines of a county's file, read to its end.
 ghost use Rattle.std.specs.Prelude.{◌≡◌, ℕ, List, [], ◌∷◌, ◌++◌, IfErr, IfOk, OnOk, refl};
-ghost use Rattle.counted_io.specs.ReaderWriter.{reader};
 ghost use Rattle.tl_records.specs.Records.{IsValidLine, IsLineFault};
 ghost use Rattle.tl_records.specs.declared.fault.LineFault.{LineFault};
 ghost use Rattle.tl_segments.specs.CountyFile.{layout};
@@ -115,10 +114,8 @@ pub(crate) fn read_file<T: Table, R: CountedRead>(
     input: &mut R,
 ) -> Result<(), LoadFault>
     requires { T.holds table.old [] }
-    ensures ok { OnOk result (HoldsFile T.Lines.FILE (T.holds table.new)
-        (reader R.remaining R.failed_reads input.old) (reader R.remaining R.failed_reads input.new)) }
-    ensures err { IfErr result (λ fault. IsFileFault T.Lines.FILE fault
-        (reader R.remaining R.failed_reads input.old) (reader R.remaining R.failed_reads input.new)) }
+    ensures ok { OnOk result (HoldsFile T.Lines.FILE (T.holds table.new) (R.reader input.old) (R.reader input.new)) }
+    ensures err { IfErr result (λ fault. IsFileFault T.Lines.FILE fault (R.reader input.old) (R.reader input.new)) }
 {
     let mut line = Line::new();
     loop {

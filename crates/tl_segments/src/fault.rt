@@ -3,10 +3,7 @@ ghost use Rattle.std.specs.Prelude.{◌≡◌};
 ghost use Rattle.tl_segments.specs.CountyFile.{record_type};
 ghost use Rattle.tl_segments.specs.LoadFault.{in_file};
 ghost use Rattle.tl_segments.specs.declared.fault.LoadFault.TheVariants.{Line, Memory};
-ghost use Rattle.tl_segments.specs.LoadFault as load_fault;
-ghost use Rattle.refusals.specs.Refusal.{line as refusal_line};
 
-use arrayvec::ArrayString;
 use refusals::{Fault, Refusal};
 use std::alloc::{AllocError, AllocFailed};
 use thiserror::Error;
@@ -81,13 +78,6 @@ impl LoadFault {
         ensures { result ≡ Line file fault }
     {
         LoadFault::Line { file, fault }
-    }
-
-    /// Returns the refusal's line of text, such as `refused 6 rt4 line 1001 TooManyNames`, without a line terminator. It doesn't allocate.
-    pub fn line(&self) -> ArrayString<64>
-        ensures { result.bytes ≡ refusal_line (load_fault.refusal self.now) }
-    {
-        Fault::line(self)
     }
 }
 

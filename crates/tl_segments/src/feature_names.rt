@@ -13,6 +13,7 @@ use std::collections::BTreeMap;
 #[derive(Drop)]
 pub(crate) struct FeatureNames<A: Allocator> {
     first: u64,
+    // A look-up here waits for memory once, one in the map several times.
     following: Vec<FullNameFields, A>,
     others: BTreeMap<u64, FullNameFields, A>,
 }

@@ -1,6 +1,9 @@
 //! What is joined to the type 1 lines of a county, by TLID.
+//!
+//! In the order 4, 5, 6, and before type 1, the long file, so that memory doesn't grow with it. Lines that belong to no segment are skipped, since a
+//! county may be cut out of a larger set, but they count towards the limits, so that each file can be judged without type 1. `check` keeps counts
+//! only, for programs that read the record alone, because the faults of the files are part of every answer.
 ghost use Rattle.std.specs.Prelude.{◌≡◌, ◌≤◌, ◌+◌, ℕ, [], ◌++◌, length, IfErr, IfOk, IsTrue, OnErr, OnOk};
-ghost use Rattle.counted_io.specs.ReaderWriter.{reader};
 ghost use Rattle.tl_segments.specs.FullName.{with_names};
 ghost use Rattle.tl_segments.specs.Joining.{JoinedLines, no_lines, segment_of};
 ghost use Rattle.tl_segments.specs.Loading.{AreFaultless, IsJoinedFault, readers};
@@ -55,9 +58,9 @@ impl<A: Allocator + Copy> Index<A> {
         rt6: &mut R,
     ) -> Result<Self, LoadFault>
         ensures ok { IfOk result (λ index. LoadsIndex index
-            (readers R.remaining R.failed_reads rt4.old rt5.old rt6.old) (readers R.remaining R.failed_reads rt4.new rt5.new rt6.new)) }
+            (readers R.reader rt4.old rt5.old rt6.old) (readers R.reader rt4.new rt5.new rt6.new)) }
         ensures err { IfErr result (λ fault. IsJoinedFault fault
-            (readers R.remaining R.failed_reads rt4.old rt5.old rt6.old) (readers R.remaining R.failed_reads rt4.new rt5.new rt6.new)) }
+            (readers R.reader rt4.old rt5.old rt6.old) (readers R.reader rt4.new rt5.new rt6.new)) }
     {
         let mut features = MultiMap::new(alloc);
         let mut names = FeatureNames::new(alloc);
@@ -82,9 +85,9 @@ impl<A: Allocator + Copy> Index<A> {
         rt6: &mut R,
     ) -> Result<(), LoadFault>
         ensures ok { OnOk result (AreFaultless
-            (readers R.remaining R.failed_reads rt4.old rt5.old rt6.old) (readers R.remaining R.failed_reads rt4.new rt5.new rt6.new)) }
+            (readers R.reader rt4.old rt5.old rt6.old) (readers R.reader rt4.new rt5.new rt6.new)) }
         ensures err { IfErr result (λ fault. IsJoinedFault fault
-            (readers R.remaining R.failed_reads rt4.old rt5.old rt6.old) (readers R.remaining R.failed_reads rt4.new rt5.new rt6.new)) }
+            (readers R.reader rt4.old rt5.old rt6.old) (readers R.reader rt4.new rt5.new rt6.new)) }
     {
         read_file(&mut LinesPerTlid::<Type4, A>::new(alloc), rt4)?;
         read_file(&mut IgnoreNames, rt5)?;
@@ -124,7 +127,7 @@ impl<A: Allocator + Copy> Index<A> {
         segment: &mut Segment<A>,
     ) -> Result<Option<()>, LoadFault>
         ensures { IsSegmentRead self.now (line_of number.old segment.old) (record { number = number.new; segment = segment.new })
-            (reader R.remaining R.failed_reads input.old) (reader R.remaining R.failed_reads input.new) result }
+            (R.reader input.old) (R.reader input.new) result }
     {
         match segment.read_record(input, number) {
             Ok(Some(())) => {}

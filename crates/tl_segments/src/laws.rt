@@ -1,10 +1,10 @@
 //! Laws about the definitions, stated as contracts of functions that do nothing.
 ghost use Rattle.std.specs.Prelude.{◌≡◌, ◌≤◌, ℕ, List, length, All};
 ghost use Rattle.std.specs.List.{flat_map};
-ghost use Rattle.tl_segments.specs.County.{CountyParts, CountyReaders, LoadsCounty};
+ghost use Rattle.tl_segments.specs.County.{LoadsSegments, SegmentReaders};
 ghost use Rattle.tl_segments.specs.Joining.{JoinedLines, lines_with, segments_of};
 ghost use Rattle.tl_segments.specs.Loading.{AreValidJoined, AreValidLines};
-ghost use Rattle.tl_segments.specs.Segment.{IsSegment};
+ghost use Rattle.tl_segments.specs.Segment.{IsSegment, SegmentParts};
 ghost use Rattle.tl_segments.specs.Shape.{ShapePartParts, shape_lines, shape_parts, shape_points};
 ghost use Rattle.tl_segments.specs.declared.fault.CountyFile.TheVariants.{Rt1, Rt2};
 
@@ -37,7 +37,7 @@ pub fn limits()
 pub fn lines_make_segments()
     ensures lines { (joined : JoinedLines) → AreValidJoined joined → (lines : List (List ℕ)) → AreValidLines Rt1 lines
         → All IsSegment (segments_of joined lines) }
-    ensures county { (county : CountyParts) (old new : CountyReaders) → LoadsCounty county old new → All IsSegment county.segments }
+    ensures loaded { (segments : List SegmentParts) (old new : SegmentReaders) → LoadsSegments segments old new → All IsSegment segments }
 {}
 
 /// States that the shape of a TLID has a limited number of points, those of its parts, and that the order of RTSQ leaves out none of its lines.

@@ -1,5 +1,6 @@
 //! The maximum numbers of what is joined to a segment.
 
+// RTSQ has three digits.
 /// The maximum number of type 2 lines, of type 4 lines, and of type 6 lines, with the same TLID.
 pub const MAX_LINES_PER_TLID: usize = 1000;
 

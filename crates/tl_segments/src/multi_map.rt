@@ -13,7 +13,9 @@ use std::collections::BTreeMap;
 /// Lists of values by number, each with at most [`MAX_LINES_PER_TLID`] values.
 #[derive(Drop)]
 pub(crate) struct MultiMap<V, A: Allocator> {
+    // Ordered, as strangers may choose a file's TLIDs and could attack an unseeded hash.
     lists: BTreeMap<u64, Vec<V, A>, A>,
+    // Most TLIDs have nothing, which a mark says without a search.
     marks: Marks<A>,
     ghost marked: { AreMarked lists marks },
 }
@@ -61,6 +63,7 @@ impl<A: Allocator + Copy> MultiMap<ShapePart, A> {
         if is_full(list) {
             return Ok(Addition::OverLimit);
         }
+        // Nothing would say which of two lines with one RTSQ comes first, so the second one is refused.
         let Some(place) = place_of(list.as_slice(), part.sequence()) else {
             return Ok(Addition::Repeated);
         };

@@ -1,6 +1,15 @@
 //! Street segments.
+//!
+//! A type 1 record with what the files of types 4, 5 and 6 say about its TLID. One segment serves all lines of a run: a line is read into the
+//! segment's own buffer and checked there, and its lists keep their room. So the buffer has room for the longest content, not for a record, and a
+//! fault leaves a blank segment, on a path that is taken once. A county instead keeps each segment, and the segments of a TLID share one copy of its
+//! lists: 4,000 lines of type 1 with 1,000 lines of types 4 and 6 for one TLID are files of 1 MB, and would take hundreds of megabytes as copies. A
+//! segment's own lists follow the shared ones.
+//!
+//! Always: a segment without alternate names and further ranges allocates nothing, as most have none. Name 0 and range 0 are those of the record
+//! itself; the affixes of names are next to them, so that what is said of names needn't mention them. The bytes may be any: only those read from a
+//! file are known to be a record.
 ghost use Rattle.std.specs.Prelude.{◌≡◌, ◌≤◌, ◌<◌, ◌+◌, [], ◌∷◌, ◌++◌, length, replicate, option_copied, option_map, slice_get, Some, IfOk, IfSome, OnOk, OnErr};
-ghost use Rattle.counted_io.specs.ReaderWriter.{reader};
 ghost use Rattle.tl_records.specs.Records.{IsValidLine};
 ghost use Rattle.tl_segments.specs.Affixes.{no_affixes};
 ghost use Rattle.tl_segments.specs.CountyFile.{layout};
@@ -89,6 +98,7 @@ impl<A: Allocator + Copy> Segment<A> {
         if self.shared.is_some() || self.names.is_empty() && self.ranges.is_empty() {
             return Ok((self, None));
         }
+        // Exact copies, as they are kept as long as the county.
         let names = exact_copy(alloc, self.names.as_slice())?;
         let ranges = exact_copy(alloc, self.ranges.as_slice())?;
         let joined = Rc::new(alloc, JoinedLists { names, ranges })?;
@@ -125,7 +135,7 @@ impl<A: Allocator> Segment<A> {
         number: &mut u32,
     ) -> Result<Option<()>, LineFault>
         ensures { IsRecordRead (line_of number.old self.old) (record { number = number.new; segment = self.new })
-            (reader R.remaining R.failed_reads input.old) (reader R.remaining R.failed_reads input.new) result }
+            (R.reader input.old) (R.reader input.new) result }
     {
         self.shared = None;
         self.names.clear();
@@ -357,7 +367,7 @@ fn read_rt1<R: CountedRead>(
     content: &mut ArrayVec<u8, MAX_CONTENT_LENGTH>,
 ) -> Result<Option<()>, LineFault>
     ensures { IsRt1Read (record { number = number.old; bytes = content.old.items }) (record { number = number.new; bytes = content.new.items })
-        (reader R.remaining R.failed_reads input.old) (reader R.remaining R.failed_reads input.new) result }
+        (R.reader input.old) (R.reader input.new) result }
 {
     match read_line_into(input, number, content) {
         Ok(Some(())) => {}

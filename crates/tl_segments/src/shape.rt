@@ -71,6 +71,7 @@ fn points_in(rt2: &Rt2<'_>) -> ArrayVec<Point, 10>
     let mut points = ArrayVec::new();
     for index in 0..Type2::POINTS {
         let Some(point) = point_at(rt2, index + 1) else {
+            // As GDAL's driver for these files has it. Passing over unused points would draw another line.
             return points;
         };
         points.push(point);

@@ -46,6 +46,7 @@ impl<A: Allocator + Copy> SharedLists<A> {
         if index.joins_nothing_to(tlid) {
             return Ok(Segment::of(self.alloc, rt1.bytes()));
         }
+        // With a copy for each segment, files of 1 MB could take hundreds of megabytes.
         if let Some(joined) = self.lists.get(&tlid) {
             let joined = joined.clone()?;
             return Ok(Segment::sharing(self.alloc, rt1.bytes(), joined));

@@ -12,6 +12,7 @@ use tl_records::{Record, Type5};
 /// The number of lines of each TLID, at most [`MAX_LINES_PER_TLID`].
 #[derive(Drop)]
 pub(crate) struct LinesPerTlid<T, A: Allocator> {
+    // Counts alone: the limits need no more.
     counts: BTreeMap<u64, u16, A>,
     of: PhantomData<T>,
 }

@@ -1,5 +1,5 @@
-//! Tests of the crates for records, segments and addresses: `tl_fields`, `tl_records`, `tl_segments`, `geocode`, `addresses` and `batch`. They use
-//! public calls, and are in a separate crate because a crate with tests is proved twice, once without them and once with them.
+//! Tests of the crates for records, segments and addresses: `tl_fields`, `tl_records`, `tl_segments`, `geocode`, `addresses` and `address_batch`. They
+//! use public calls, and are in a separate crate because a crate with tests is proved twice, once without them and once with them.
 #![tactic(auto)]
 
 #[cfg(test)]

@@ -1,10 +1,10 @@
 //! Addresses in their places along the shapes of segments, worked out by hand.
+use address_batch::{Batch, Lines};
 use addresses::Address;
-use batch::{Batch, Lines};
 use counted_io::Buffered;
-use fixtures::{Files, Table, TableFault, bytes, cells, county};
+use fixtures::{Files, Table, TableFault, bytes, cells};
 use std::alloc::{Allocator, Global};
-use tl_segments::{LoadFault, Shapes};
+use tl_segments::{County, CountyFiles, JoinedFiles, LoadFault};
 
 // The files of types 1 and 2, a house number on Main, and the coordinates in its line. The shape goes 1,000 millionths of a degree to the east on the
 // equator and then 3,000 to the north, or on the 60th parallel, where a degree of longitude is half as long, 2,000 to the east and 1,000 to the north.
@@ -46,6 +46,30 @@ impl<'a> Placing<'a> {
         })
     }
 
+    /// Loads the county with its shapes.
+    fn county<A: Allocator + Copy>(&self, alloc: A) -> Result<County<A>, LoadFault> {
+        let mut files = CountyFiles {
+            rt1: Buffered::new(self.files.rt1.as_slice()),
+            joined: JoinedFiles {
+                rt4: Buffered::new(self.files.rt4.as_slice()),
+                rt5: Buffered::new(self.files.rt5.as_slice()),
+                rt6: Buffered::new(self.files.rt6.as_slice()),
+            },
+            shapes: Some(Buffered::new(self.rt2.as_slice())),
+        };
+        let county = files.load(alloc);
+        let CountyFiles {
+            rt1: _rt1,
+            joined: JoinedFiles {
+                rt4: _rt4,
+                rt5: _rt5,
+                rt6: _rt6,
+            },
+            shapes: _shapes,
+        } = files;
+        county
+    }
+
     /// Looks for the address, and returns whether its line has the row's coordinates.
     pub fn is_right<A: Allocator + Copy>(
         &self,
@@ -53,9 +77,7 @@ impl<'a> Placing<'a> {
         tables: Global,
     ) -> Result<bool, LoadFault> {
         let mut counties = Vec::new(alloc);
-        counties.push(county(alloc, &self.files)?)?;
-        let mut shapes = Vec::new(alloc);
-        shapes.push(Shapes::load(alloc, &mut Buffered::new(self.rt2.as_slice()))?)?;
+        counties.push(self.county(alloc)?)?;
         let batch = Batch::of(alloc, counties.as_slice(), &["01001"])?;
         let mut lines = Lines::new(tables);
         let address = Address {
@@ -68,7 +90,7 @@ impl<'a> Placing<'a> {
             kind: "",
             sufdir: "",
         };
-        batch.write_shaped_lines(alloc, tables, &address, shapes.as_slice(), &mut lines)?;
+        batch.write_shaped_lines(alloc, tables, &address, &mut lines)?;
         Ok(has_coordinates(lines.as_bytes(), self.coordinates))
     }
 }

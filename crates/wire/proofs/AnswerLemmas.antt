@@ -9,7 +9,7 @@ use Rattle.jobs.specs.declared.event.Reply.{Reply as JobReply}
 use Rattle.jobs.specs.declared.event.Reply.TheVariants.{Submitted, Turned, Rows, Dropped, Refused}
 use Rattle.jobs.specs.declared.fault.JobFault.TheVariants.{Full, NoJob, Program, Memory}
 use Rattle.counted_io.specs.ReaderWriter.{Writer}
-use Rattle.wire.specs.Answer.{IsFilterProgram, IsJobReply, IsTableReply, Submits, SubmitsTo, status_reply}
+use Rattle.wire.specs.Answer.{IsJobReply, IsTableReply, Submits, SubmitsTo, status_reply}
 use Rattle.wire.specs.Reading.{Sends, WritesReply}
 use Rattle.wire.specs.Turn.{IsTurn}
 use Rattle.wire.specs.declared.job.JobTurn.{JobTurn}
@@ -35,18 +35,6 @@ of_submission program body old new reply same is = record {
   step = is.step;
   is_reply = is.is_reply;
 }
-
--- so is the program of a filter
-pub of_filter_submission : (query filter : List ℕ) (program : Bor (List ℕ)) (bytes : List ℕ) (old new : Table) (reply : ReplyParts)
-    → program.now ≡ bytes → IsFilterProgram query filter bytes → IsTableReply (λ made. made ≡ Submit program) old reply new
-    → SubmitsTo query filter old reply new
-of_filter_submission query filter program bytes old new reply same compiled is = inl (record {
-  event = is.event;
-  is_event = (bytes, compiled, subst (λ made. Submits bytes made) (sym is.is_event) same);
-  table_reply = is.table_reply;
-  step = is.step;
-  is_reply = is.is_reply;
-})
 
 -- an invalid id belongs to no job
 pub of_no_job : (make : ℕ → Event) (id : Option ℕ) (table : Table) → None ≡ id → IsJobReply make id table (status_reply NotFound) table

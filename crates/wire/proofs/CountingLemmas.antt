@@ -24,21 +24,15 @@ line_feeds_append (byte ∷ text) more =
     ap (λ count. (if byte == 10 then 1 else 0) + count) (line_feeds_append text more)
     ∙ sym (add_assoc (if byte == 10 then 1 else 0) (line_feeds text) (line_feeds more))
 
-pub same_rows : (route : Option Route) (status status' : Status) (media media' : MediaType) (lines lines' : ℕ) → status ≡ status' → media ≡ media'
+pub same_rows : (route : Option Route) {status status' : Status} {media media' : MediaType} {lines lines' : ℕ} → status ≡ status' → media ≡ media'
     → lines ≡ lines' → rows_among route status media lines ≡ rows_among route status' media' lines'
-same_rows route status status' media media' lines lines' same_status same_media same_lines =
-    ap (λ (status : Status). rows_among route status media lines) same_status
-    ∙ ap (λ (media : MediaType). rows_among route status' media lines) same_media
-    ∙ ap (λ (lines : ℕ). rows_among route status' media' lines) same_lines
+same_rows route same_status same_media same_lines = rw (same_status, same_media, same_lines) refl
 
-pub counts_are : (state : StateParts) (table : Table) (counters : CountersParts) (running_count finished_count : ℕ) (body : List ℕ)
+pub counts_are : (state : StateParts) (table : Table) {counters : CountersParts} {running_count finished_count : ℕ} {body : List ℕ}
     → body ≡ counts_text counters running_count finished_count → counters ≡ state.counters → running_count ≡ running table
     → finished_count ≡ finished table → table ≡ state.table → body_reply Metrics body ≡ counts_reply state
-counts_are state table counters running_count finished_count body is same_counters is_running is_finished same_table =
-    ap (body_reply Metrics)
-    (is ∙ ap (λ (counters : CountersParts). counts_text counters running_count finished_count) same_counters
-    ∙ ap (λ (count : ℕ). counts_text state.counters count finished_count) (is_running ∙ ap running same_table)
-    ∙ ap (λ (count : ℕ). counts_text state.counters (running state.table) count) (is_finished ∙ ap finished same_table))
+counts_are state table is same_counters is_running is_finished same_table =
+    ap (body_reply Metrics) (is ∙ rw (same_counters, is_running ∙ ap running same_table, is_finished ∙ ap finished same_table) refl)
 
 -- ---- only the reply with the counts depends on them
 

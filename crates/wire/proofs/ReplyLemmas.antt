@@ -3,8 +3,8 @@ use Rattle.std.proofs.Common.{◌≡◌, ◌≢◌, ◌<◌, ℕ, Bool, true, fa
 use Rattle.std.specs.Borrow.{Bor}
 use Rattle.addresses.specs.AddressFault as address_fault
 use Rattle.addresses.specs.declared.fault.AddressFault.{AddressFault}
-use Rattle.batch.proofs.OutputLemmas.{fault_is, no_output_fault, one_output, one_output_fault}
-use Rattle.batch.specs.Output.{IsAddressesFault, IsFaultOf}
+use Rattle.address_batch.proofs.OutputLemmas.{fault_is, no_output_fault, one_output, one_output_fault}
+use Rattle.address_batch.specs.Output.{IsAddressesFault, IsFaultOf}
 use Rattle.bpf_explain.proofs.ExplanationLemmas.{one_explanation}
 use Rattle.bpf_insn.proofs.CodeLemmas as code_of
 use Rattle.bpf_insn.proofs.EncoderLemmas as encoder

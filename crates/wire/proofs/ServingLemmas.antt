@@ -68,8 +68,7 @@ module _ (named : Named) (request_read : RequestRead) (sent : Sent) (old new : C
         status = ap Some replies.status;
         length_is = ap (written_length sent.written) replies.length_is;
         rows_is = ap (written_rows sent.written)
-            (same_rows named.route sent.status replies.is_replied.reply.status sent.media replies.is_replied.reply.media sent.lines
-            (line_feeds replies.is_replied.reply.body) replies.status replies.media_is replies.lines_is);
+            (same_rows named.route replies.status replies.media_is replies.lines_is);
       }))
 
 -- ---- such replies

@@ -2,7 +2,7 @@
 use Rattle.std.specs.Prelude.{◌≡◌, ◌<◌, ◌⊎◌, ℕ, List, [], ◌∷◌, ◌++◌, codes, decimal, Option, Some, None, Result, Ok, Err, IsUtf8}
 use Rattle.addresses.specs.AddressFault as address_fault
 use Rattle.addresses.specs.declared.fault.AddressFault.{AddressFault}
-use Rattle.batch.specs.Output.{IsAddressesFault, IsOutputOf}
+use Rattle.address_batch.specs.Output.{IsAddressesFault, IsOutputOf}
 use Rattle.bpf_explain.specs.Explanation.{Explains}
 use Rattle.bpf_insn.specs.Code.{IsFirstFault}
 use Rattle.bpf_insn.specs.CodeFault as code_fault

@@ -3,10 +3,10 @@ use Rattle.std.specs.Prelude.{None}
 use Rattle.http_message.specs.Reply.{ReplyParts}
 use Rattle.http_message.specs.declared.status.Status.TheVariants as status
 use Rattle.wire.specs.Answer.{disallowed, line_reply, plain, refusal_reply, rows_reply, status_reply}
-use Rattle.wire.specs.declared.answer.Answer.{Answer}
-use Rattle.wire.specs.declared.answer.Answer.TheVariants.{Status, Disallowed, Text, Made, Refused, RefusedLines, Line, Rows}
+use Rattle.wire.specs.declared.answer.Response.{Response}
+use Rattle.wire.specs.declared.answer.Response.TheVariants.{Status, Disallowed, Text, Made, Refused, RefusedLines, Line, Rows}
 
-abbrev pub reply_of : {A : Type 0} → Answer A → ReplyParts
+abbrev pub reply_of : {A : Type 0} → Response A → ReplyParts
 reply_of (Status status) = status_reply status
 reply_of (Disallowed route) = disallowed route
 reply_of (Text text) = plain status.Ok text.now

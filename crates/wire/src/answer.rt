@@ -1,6 +1,5 @@
 //! The answers to requests.
 ghost use Rattle.std.specs.Prelude.{◌≡◌, ◌≤◌, ◌++◌, ◌∷◌, [], codes, decimal, length};
-ghost use Rattle.counted_io.specs.ReaderWriter.{writer};
 ghost use Rattle.http_message.specs.Reply.{parts_of};
 ghost use Rattle.http_message.specs.declared.status.Status.TheVariants as status;
 ghost use Rattle.wire.specs.Answer.{class_status, plain};
@@ -18,7 +17,7 @@ use std::alloc::Allocator;
 
 /// The answer to a request, before it's laid out as a reply.
 #[derive(Drop)]
-pub(crate) enum Answer<'a, A: Allocator> {
+pub(crate) enum Response<'a, A: Allocator> {
     /// A status with its own text.
     Status(Status),
     /// The route doesn't have the method.
@@ -46,35 +45,35 @@ pub(crate) enum Answer<'a, A: Allocator> {
     },
 }
 
-impl<'a, A: Allocator> Answer<'a, A> {
+impl<'a, A: Allocator> Response<'a, A> {
     /// Returns the reply, which borrows the large parts of the answer.
     fn reply(&self) -> Reply<'_>
         ensures { parts_of result ≡ reply_of self.now }
     {
         match self {
-            Answer::Status(status) => Reply::of_status(*status),
-            Answer::Disallowed(route) => Reply {
+            Response::Status(status) => Reply::of_status(*status),
+            Response::Disallowed(route) => Reply {
                 allow: Some(route.allow()),
                 ..Reply::of_status(Status::MethodNotAllowed)
             },
-            Answer::Text(text) => plain(ArrayVec::new(), text.as_bytes()),
-            Answer::Made { media, body } => Reply {
+            Response::Text(text) => plain(ArrayVec::new(), text.as_bytes()),
+            Response::Made { media, body } => Reply {
                 media: *media,
                 ..plain(ArrayVec::new(), body.as_slice())
             },
-            Answer::Refused(refusal) => Reply {
+            Response::Refused(refusal) => Reply {
                 status: class_status(refusal.class()),
                 ..plain(with_line_end(refusal.line()), &[])
             },
-            Answer::RefusedLines(lines) => Reply {
+            Response::RefusedLines(lines) => Reply {
                 status: Status::UnprocessableEntity,
                 ..plain(ArrayVec::new(), lines.as_slice())
             },
-            Answer::Line { status, line } => Reply {
+            Response::Line { status, line } => Reply {
                 status: *status,
                 ..plain(with_line_end(*line), &[])
             },
-            Answer::Rows { done, total, rows } => Reply {
+            Response::Rows { done, total, rows } => Reply {
                 media: MediaType::Octets,
                 ..plain(with_line_end(counts(*done, *total)), rows)
             },
@@ -83,8 +82,7 @@ impl<'a, A: Allocator> Answer<'a, A> {
 
     /// Writes the reply, in as few writes as its parts allow. It doesn't allocate.
     pub fn write<W: CountedWrite>(self, out: &mut W) -> Sent
-        ensures { Sends (reply_of self.entry) result
-            (writer W.contents W.counts out.old) (writer W.contents W.counts out.new) }
+        ensures { Sends (reply_of self.entry) result (W.writer out.old) (W.writer out.new) }
     {
         let reply = self.reply();
         Sent {
@@ -123,6 +121,7 @@ fn class_status(class: Class) -> Status
 {
     match class {
         Class::Refused => Status::UnprocessableEntity,
+        // No request reads or writes a file, so `Io` doesn't occur.
         Class::Io | Class::Memory => Status::ServiceUnavailable,
     }
 }

@@ -4,7 +4,7 @@ ghost use Rattle.wire.specs.Answer.{counts_reply, memory_reply};
 ghost use Rattle.wire.specs.Counting.{counted, judged_by, rows_among, with_request};
 ghost use Rattle.wire.specs.Reply.{reply_of};
 
-use crate::answer::Answer;
+use crate::answer::Response;
 use crate::state::State;
 use crate::summary::Summary;
 use http_message::{MediaType, Route, Status};
@@ -25,7 +25,7 @@ impl<A: Allocator + Copy> State<A> {
     }
 
     /// Returns the counts as text.
-    pub(crate) fn counts_answer(&self) -> Answer<'static, A>
+    pub(crate) fn counts_answer(&self) -> Response<'static, A>
         ensures { (reply_of result ≡ counts_reply self.now) ⊎ (reply_of result ≡ memory_reply) }
     {
         let progress = self.jobs.progress();
@@ -33,11 +33,11 @@ impl<A: Allocator + Copy> State<A> {
             .counters
             .text(self.alloc, progress.running, progress.finished)
         {
-            Ok(body) => Answer::Made {
+            Ok(body) => Response::Made {
                 media: MediaType::Metrics,
                 body,
             },
-            Err(_error) => Answer::Refused(Refusal::memory()),
+            Err(_error) => Response::Refused(Refusal::memory()),
         }
     }
 }
@@ -67,8 +67,10 @@ pub(crate) fn rows_among(route: Option<Route>, status: Status, media: MediaType,
 {
     match (route, status, media) {
         (Some(Route::Extract), Status::Ok, _) => lines,
+        // The header is no row.
         (Some(Route::Select), Status::Ok, MediaType::Csv) => lines.saturating_sub(1),
         (Some(Route::Select), Status::Ok, _) => lines,
+        // The first line is the progress.
         (Some(Route::Job), Status::Ok, _) => lines.saturating_sub(1),
         _ => 0,
     }

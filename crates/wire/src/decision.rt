@@ -1,8 +1,11 @@
 //! The decision on an input: whether it's a request, and what it requests.
+//!
+//! The input as a whole decides, so how it was cut into reads can't matter. A path has a route or is 404 before its method is looked at, and the
+//! rules of the body come before the action.
 ghost use Rattle.std.specs.Prelude.{◌≡◌, IfErr, IfOk, IsTrue};
 ghost use Rattle.http_message.specs.Reading.{ReadsHead};
 ghost use Rattle.http_message.specs.Target.{path_of, query_of};
-ghost use Rattle.counted_io.specs.ReaderWriter.{Reader, reader};
+ghost use Rattle.counted_io.specs.ReaderWriter.{Reader};
 ghost use Rattle.wire.specs.Decision.{length_status, named_by, request_read_of, requested_action, takes_body};
 ghost use Rattle.wire.specs.Reading.{Decides, FailsToDecide, decision_of, of_head};
 
@@ -84,10 +87,8 @@ pub(crate) fn read_decision<'a, A: Allocator + Copy, R: CountedRead>(
     buffer: &'a mut HeadBuffer,
     input: &mut R,
 ) -> Result<Decided<'a, A>, ReadFault>
-    ensures ok { IfOk result (λ decided. Decides decided.named (decision_of decided.decision)
-        (reader R.remaining R.failed_reads input.old) (reader R.remaining R.failed_reads input.new)) }
-    ensures err { IfErr result (λ fault. FailsToDecide fault
-        (reader R.remaining R.failed_reads input.old) (reader R.remaining R.failed_reads input.new)) }
+    ensures ok { IfOk result (λ decided. Decides decided.named (decision_of decided.decision) (R.reader input.old) (R.reader input.new)) }
+    ensures err { IfErr result (λ fault. FailsToDecide fault (R.reader input.old) (R.reader input.new)) }
 {
     let Some(request) = buffer.read_head(input)? else {
         return Ok(Decided {
@@ -144,11 +145,11 @@ fn read_routed<'a, A: Allocator + Copy, R: CountedRead>(
     requires requests { requested_action request.now.head ≡ Some action }
     requires takes { IsTrue (takes_body action) }
     ensures ok { IfOk result (λ decided. (start : Reader)
-        → ReadsHead request.now start (reader R.remaining R.failed_reads input.old)
-        → Decides decided.named (decision_of decided.decision) start (reader R.remaining R.failed_reads input.new)) }
+        → ReadsHead request.now start (R.reader input.old)
+        → Decides decided.named (decision_of decided.decision) start (R.reader input.new)) }
     ensures err { IfErr result (λ fault. (start : Reader)
-        → ReadsHead request.now start (reader R.remaining R.failed_reads input.old)
-        → FailsToDecide fault start (reader R.remaining R.failed_reads input.new)) }
+        → ReadsHead request.now start (R.reader input.old)
+        → FailsToDecide fault start (R.reader input.new)) }
 {
     let length = match request.body_length() {
         Ok(length) => length,

@@ -5,37 +5,37 @@ ghost use Rattle.bpf_program.specs.ProgramFault.{refusal};
 ghost use Rattle.wire.specs.Answer.{ExplainsTo, IsExplanation};
 ghost use Rattle.wire.specs.Reply.{reply_of};
 
-use crate::answer::Answer;
+use crate::answer::Response;
 use bpf_explain::{ExplainFault, Explanation, explain};
 use bpf_program::ProgramFault;
 use http_message::MediaType;
-use refusals::Refusal;
+use refusals::{Fault, Refusal};
 use std::alloc::{AllocError, Allocator};
 
 /// Returns the text that explains the verdict on a program, and then the refusal's line if it is refused.
-pub(crate) fn explain_program<A: Allocator + Copy>(alloc: A, program: &[u8]) -> Answer<'static, A>
+pub(crate) fn explain_program<A: Allocator + Copy>(alloc: A, program: &[u8]) -> Response<'static, A>
     ensures { ExplainsTo program.now (reply_of result) }
 {
     match explained(alloc, program) {
         Ok(answer) => answer,
         // Without source lines, nothing fails but an allocation.
-        Err(_fault) => Answer::Refused(Refusal::memory()),
+        Err(_fault) => Response::Refused(Refusal::memory()),
     }
 }
 
 fn explained<A: Allocator + Copy>(
     alloc: A,
     program: &[u8],
-) -> Result<Answer<'static, A>, ExplainFault>
+) -> Result<Response<'static, A>, ExplainFault>
     ensures { IfOk result (λ answer. IsExplanation program.now (reply_of answer)) }
 {
     let Explanation { text, verdict } = explain(alloc, program, &[])?;
     match verdict {
-        Ok(()) => Ok(Answer::Made {
+        Ok(()) => Ok(Response::Made {
             media: MediaType::Plain,
             body: text,
         }),
-        Err(fault) => Ok(Answer::RefusedLines(with_line(text, fault)?)),
+        Err(fault) => Ok(Response::RefusedLines(with_line(text, fault)?)),
     }
 }
 

@@ -1,6 +1,5 @@
 //! The answers to filters.
 ghost use Rattle.std.specs.Prelude.{◌≡◌, List, ℕ, IfErr, IfOk};
-ghost use Rattle.counted_io.specs.ReaderWriter.{writer};
 ghost use Rattle.layers.specs.LayerParts.{parts_of};
 ghost use Rattle.wire.specs.Answer.{CompilesTo, IsFilterProgram, IsFilterRefused, IsSelected, SelectsTo, SubmitsTo, media_of};
 ghost use Rattle.wire.specs.Query.{AreOptionsOf};
@@ -8,7 +7,7 @@ ghost use Rattle.wire.specs.Reading.{WritesReply};
 ghost use Rattle.wire.specs.Refused.{IsRefusalOf};
 ghost use Rattle.wire.specs.Reply.{reply_of};
 
-use crate::answer::Answer;
+use crate::answer::Response;
 use crate::job::write_job_reply;
 use crate::query::{filter_options, layer};
 use crate::summary::Sent;
@@ -42,18 +41,18 @@ impl From<AllocError> for FilterRefusal {
 
 impl FilterRefusal {
     /// Returns the answer: a 400, or the lines of the failure.
-    fn answer<A: Allocator>(self, alloc: A) -> Answer<'static, A>
+    fn answer<A: Allocator>(self, alloc: A) -> Response<'static, A>
         ensures { (query filter : List ℕ) → IsRefusalOf query filter self → IsFilterRefused query filter (reply_of result) }
     {
         match self {
-            FilterRefusal::Malformed => Answer::Status(Status::BadRequest),
+            FilterRefusal::Malformed => Response::Status(Status::BadRequest),
             FilterRefusal::Failed(failure) => match failure.number() {
                 Some(_number) => match failure.text(alloc) {
-                    Ok(lines) => Answer::RefusedLines(lines),
-                    Err(_error) => Answer::Refused(Refusal::memory()),
+                    Ok(lines) => Response::RefusedLines(lines),
+                    Err(_error) => Response::Refused(Refusal::memory()),
                 },
                 // An allocation failed.
-                None => Answer::Refused(Refusal::memory()),
+                None => Response::Refused(Refusal::memory()),
             },
         }
     }
@@ -66,16 +65,16 @@ pub(crate) fn select<A: Allocator + Copy>(
     counties: &[County<A>],
     query: &str,
     filter: &[u8],
-) -> Answer<'static, A>
+) -> Response<'static, A>
     ensures { SelectsTo counties.now query.now filter.now (reply_of result) }
 {
     let layer = match layer(alloc, query.as_bytes()) {
         Ok(Some(layer)) => layer,
-        Ok(None) => return Answer::Status(Status::BadRequest),
-        Err(_error) => return Answer::Refused(Refusal::memory()),
+        Ok(None) => return Response::Status(Status::BadRequest),
+        Err(_error) => return Response::Refused(Refusal::memory()),
     };
     match selected(global, alloc, counties, &layer, query.as_bytes(), filter) {
-        Ok(body) => Answer::Made {
+        Ok(body) => Response::Made {
             media: media_of(&layer),
             body,
         },
@@ -118,11 +117,11 @@ pub(crate) fn compile_filter<A: Allocator + Copy>(
     alloc: A,
     query: &str,
     filter: &[u8],
-) -> Answer<'static, A>
+) -> Response<'static, A>
     ensures { CompilesTo query.now filter.now (reply_of result) }
 {
     match compiled(global, alloc, query.as_bytes(), filter) {
-        Ok(body) => Answer::Made {
+        Ok(body) => Response::Made {
             media: MediaType::Octets,
             body,
         },
@@ -139,8 +138,7 @@ pub(crate) fn submit_filter<A: Allocator + Copy, W: CountedWrite>(
     filter: &[u8],
     out: &mut W,
 ) -> Sent
-    ensures { WritesReply (λ reply. SubmitsTo query.now filter.now jobs.old reply jobs.new) result
-        (writer W.contents W.counts out.old) (writer W.contents W.counts out.new) }
+    ensures { WritesReply (λ reply. SubmitsTo query.now filter.now jobs.old reply jobs.new) result (W.writer out.old) (W.writer out.new) }
 {
     match compiled(global, alloc, query.as_bytes(), filter) {
         Ok(program) => write_job_reply(jobs, Event::Submit(program.as_slice()), out),

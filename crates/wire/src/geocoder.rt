@@ -1,11 +1,12 @@
 //! The answer to a query for a place.
-ghost use Rattle.std.specs.Prelude.{◌≡◌, ◌⊎◌, IfOk};
+ghost use Rattle.std.specs.Prelude.{◌≡◌, ◌⊎◌, IfOk, option_map};
 ghost use Rattle.geocode.specs.Gazetteer.{IsGazetteerOf};
+ghost use Rattle.geocode.specs.Query.{parts_of};
 ghost use Rattle.wire.specs.Answer.{GeocodesTo, place_reply};
 ghost use Rattle.wire.specs.Query.{requested_place};
 ghost use Rattle.wire.specs.Reply.{reply_of};
 
-use crate::answer::Answer;
+use crate::answer::Response;
 use crate::query::first_value;
 use geocode::{Gazetteer, Query, hit_lines};
 use http_message::{MediaType, Status};
@@ -19,13 +20,13 @@ pub(crate) fn geocode<A: Allocator + Copy>(
     gazetteer: &Gazetteer<A>,
     counties: &[County<A>],
     query: &str,
-) -> Answer<'static, A>
+) -> Response<'static, A>
     requires { IsGazetteerOf gazetteer.now counties.now }
     ensures { GeocodesTo counties.now query.now (reply_of result) }
 {
     match answer_place(alloc, gazetteer, counties, query.as_bytes()) {
         Ok(answer) => answer,
-        Err(_error) => Answer::Refused(Refusal::memory()),
+        Err(_error) => Response::Refused(Refusal::memory()),
     }
 }
 
@@ -34,23 +35,30 @@ fn answer_place<A: Allocator + Copy>(
     gazetteer: &Gazetteer<A>,
     counties: &[County<A>],
     query: &[u8],
-) -> Result<Answer<'static, A>, AllocError>
+) -> Result<Response<'static, A>, AllocError>
     requires { IsGazetteerOf gazetteer.now counties.now }
     ensures { IfOk result (λ answer. reply_of answer ≡ place_reply counties.now (requested_place query.now)) }
+{
+    let Some(place) = requested_place(alloc, query)? else {
+        return Ok(Response::Status(Status::BadRequest));
+    };
+    let hits = place.find_in(alloc, gazetteer, counties)?;
+    Ok(Response::Made {
+        media: MediaType::Plain,
+        body: hit_lines(alloc, hits.as_slice())?,
+    })
+}
+
+/// Returns the place that a query requests: none if its number or its name is missing, or a part is malformed.
+fn requested_place<A: Allocator + Copy>(alloc: A, query: &[u8]) -> Result<Option<Query>, AllocError>
+    ensures { IfOk result (λ place. option_map parts_of place ≡ requested_place query.now) }
 {
     let number = first_value(alloc, "number", query)?;
     let name = first_value(alloc, "name", query)?;
     let zip = first_value(alloc, "zip", query)?;
     let (Some(number), Some(name)) = (number, name) else {
-        return Ok(Answer::Status(Status::BadRequest));
+        return Ok(None);
     };
     let zip = zip.as_ref().map(|zip| zip.as_bytes());
-    let Ok(place) = Query::of(number.as_bytes(), name.as_str(), zip) else {
-        return Ok(Answer::Status(Status::BadRequest));
-    };
-    let hits = place.find_in(alloc, gazetteer, counties)?;
-    Ok(Answer::Made {
-        media: MediaType::Plain,
-        body: hit_lines(alloc, hits.as_slice())?,
-    })
+    Ok(Query::of(number.as_bytes(), name.as_str(), zip).ok())
 }

@@ -3,14 +3,13 @@ ghost use Rattle.std.specs.Prelude.{◌≡◌, ◌⊎◌, decimal, false};
 ghost use Rattle.http_message.specs.declared.status.Status.TheVariants as status;
 ghost use Rattle.http_message.specs.declared.status.Status.TheVariants.{NotFound};
 ghost use Rattle.http_message.specs.Target.{job_id};
-ghost use Rattle.counted_io.specs.ReaderWriter.{writer};
 ghost use Rattle.jobs.specs.Listing.{listing};
 ghost use Rattle.wire.specs.Answer.{IsJobReply, IsTableReply, job_fault_reply, job_reply, memory_reply, plain, status_reply};
 ghost use Rattle.wire.specs.Reading.{Sends, WritesReply};
 ghost use Rattle.wire.specs.Turn.{IsTurn, judged_in, lends_rows};
 ghost use Rattle.wire.specs.Reply.{reply_of};
 
-use crate::answer::Answer;
+use crate::answer::Response;
 use crate::summary::Sent;
 use arrayvec::ArrayString;
 use counted_io::CountedWrite;
@@ -26,23 +25,22 @@ pub(crate) fn write_job_reply<A: Allocator + Copy, W: CountedWrite>(
     event: Event<'_>,
     out: &mut W,
 ) -> Sent
-    ensures { WritesReply (λ reply. IsTableReply (λ made. made ≡ event.entry) jobs.old reply jobs.new) result
-        (writer W.contents W.counts out.old) (writer W.contents W.counts out.new) }
+    ensures { WritesReply (λ reply. IsTableReply (λ made. made ≡ event.entry) jobs.old reply jobs.new) result (W.writer out.old) (W.writer out.new) }
 {
     let reply = jobs.apply(event);
     job_answer::<A>(reply).write(out)
 }
 
 /// Returns a line for each open job.
-pub(crate) fn list<A: Allocator + Copy>(jobs: &Jobs<A>) -> Answer<'static, A>
+pub(crate) fn list<A: Allocator + Copy>(jobs: &Jobs<A>) -> Response<'static, A>
     ensures { (reply_of result ≡ plain status.Ok (listing jobs.now)) ⊎ (reply_of result ≡ memory_reply) }
 {
     match jobs.listing() {
-        Ok(body) => Answer::Made {
+        Ok(body) => Response::Made {
             media: MediaType::Plain,
             body,
         },
-        Err(_error) => Answer::Refused(Refusal::memory()),
+        Err(_error) => Response::Refused(Refusal::memory()),
     }
 }
 
@@ -52,8 +50,7 @@ pub(crate) fn fetch<A: Allocator + Copy, W: CountedWrite>(
     path: &str,
     out: &mut W,
 ) -> Sent
-    ensures { WritesReply (λ reply. IsJobReply Event.Fetch (job_id path.now) jobs.old reply jobs.new) result
-        (writer W.contents W.counts out.old) (writer W.contents W.counts out.new) }
+    ensures { WritesReply (λ reply. IsJobReply Event.Fetch (job_id path.now) jobs.old reply jobs.new) result (W.writer out.old) (W.writer out.new) }
 {
     match job_id(path) {
         Some(id) => write_job_reply(jobs, Event::Fetch(id), out),
@@ -67,8 +64,7 @@ pub(crate) fn remove<A: Allocator + Copy, W: CountedWrite>(
     path: &str,
     out: &mut W,
 ) -> Sent
-    ensures { WritesReply (λ reply. IsJobReply Event.Drop (job_id path.now) jobs.old reply jobs.new) result
-        (writer W.contents W.counts out.old) (writer W.contents W.counts out.new) }
+    ensures { WritesReply (λ reply. IsJobReply Event.Drop (job_id path.now) jobs.old reply jobs.new) result (W.writer out.old) (W.writer out.new) }
 {
     match job_id(path) {
         Some(id) => write_job_reply(jobs, Event::Drop(id), out),
@@ -78,10 +74,9 @@ pub(crate) fn remove<A: Allocator + Copy, W: CountedWrite>(
 
 /// Writes the reply for an invalid id, which belongs to no job.
 fn no_job<A: Allocator, W: CountedWrite>(out: &mut W) -> Sent
-    ensures { Sends (status_reply NotFound) result
-        (writer W.contents W.counts out.old) (writer W.contents W.counts out.new) }
+    ensures { Sends (status_reply NotFound) result (W.writer out.old) (W.writer out.new) }
 {
-    Answer::<A>::Status(Status::NotFound).write(out)
+    Response::<A>::Status(Status::NotFound).write(out)
 }
 
 /// A turn of a job.
@@ -132,36 +127,36 @@ fn without_rows(reply: JobReply<'_>) -> JobReply<'static>
     }
 }
 
-fn job_answer<'a, A: Allocator>(reply: JobReply<'a>) -> Answer<'a, A>
+fn job_answer<'a, A: Allocator>(reply: JobReply<'a>) -> Response<'a, A>
     ensures { reply_of result ≡ job_reply reply.entry }
 {
     match reply {
-        JobReply::Submitted(id) => Answer::Line {
+        JobReply::Submitted(id) => Response::Line {
             status: Status::Ok,
             line: id_line(id),
         },
-        JobReply::Rows { done, total, rows } => Answer::Rows { done, total, rows },
-        JobReply::Turned { done, total } => Answer::Rows {
+        JobReply::Rows { done, total, rows } => Response::Rows { done, total, rows },
+        JobReply::Turned { done, total } => Response::Rows {
             done,
             total,
             rows: &[],
         },
-        JobReply::Dropped => Answer::Text("dropped\n"),
+        JobReply::Dropped => Response::Text("dropped\n"),
         JobReply::Refused(fault) => job_fault_answer(fault),
     }
 }
 
-fn job_fault_answer<A: Allocator>(fault: JobFault) -> Answer<'static, A>
+fn job_fault_answer<A: Allocator>(fault: JobFault) -> Response<'static, A>
     ensures { reply_of result ≡ job_fault_reply fault }
 {
     match fault {
-        JobFault::NoJob => Answer::Status(Status::NotFound),
-        JobFault::Full => Answer::Line {
+        JobFault::NoJob => Response::Status(Status::NotFound),
+        JobFault::Full => Response::Line {
             status: Status::ServiceUnavailable,
             line: fault.line(),
         },
-        JobFault::Program(fault) => Answer::Refused(fault.refusal()),
-        JobFault::Memory => Answer::Refused(Refusal::memory()),
+        JobFault::Program(fault) => Response::Refused(fault.refusal()),
+        JobFault::Memory => Response::Refused(Refusal::memory()),
     }
 }
 

@@ -1,13 +1,13 @@
 //! The HTTP server over readers and writers. It reads one request and writes one reply (RFC 9112; HTTP/1.0 and 1.1).
 #![tactic(auto)]
 
-mod address_batch;
 mod answer;
 mod counting;
 mod decision;
 mod explanation;
 mod fault;
 mod filter;
+mod geocode_batch;
 mod geocoder;
 mod job;
 pub mod laws;

@@ -2,7 +2,7 @@
 ghost use Rattle.wire.specs.Answer.{AssemblesTo, DisassemblesTo, ExtractsTo, IsVerified};
 ghost use Rattle.wire.specs.Reply.{reply_of};
 
-use crate::answer::Answer;
+use crate::answer::Response;
 use bpf_program::{accept, check_program};
 use bpf_text::{SourceFault, assemble_source, disassemble_program};
 use http_message::{MediaType, Status};
@@ -11,39 +11,39 @@ use refusals::{Fault, Refusal};
 use std::alloc::Allocator;
 use tl_segments::County;
 
-pub(crate) fn verify<A: Allocator + Copy>(alloc: A, program: &[u8]) -> Answer<'static, A>
+pub(crate) fn verify<A: Allocator + Copy>(alloc: A, program: &[u8]) -> Response<'static, A>
     ensures { IsVerified program.now (reply_of result) }
 {
     match check_program(alloc, program) {
-        Ok(()) => Answer::Text("accepted\n"),
-        Err(fault) => Answer::Refused(fault.refusal()),
+        Ok(()) => Response::Text("accepted\n"),
+        Err(fault) => Response::Refused(fault.refusal()),
     }
 }
 
 /// Returns the program's words.
-pub(crate) fn assemble<A: Allocator + Copy>(alloc: A, source: &[u8]) -> Answer<'static, A>
+pub(crate) fn assemble<A: Allocator + Copy>(alloc: A, source: &[u8]) -> Response<'static, A>
     ensures { AssemblesTo source.now (reply_of result) }
 {
     match assemble_source(alloc, source) {
-        Ok(words) => Answer::Made {
+        Ok(words) => Response::Made {
             media: MediaType::Octets,
             body: words,
         },
-        Err(SourceFault::NotUtf8) => Answer::Status(Status::BadRequest),
-        Err(SourceFault::Text(fault)) => Answer::Refused(fault.refusal()),
+        Err(SourceFault::NotUtf8) => Response::Status(Status::BadRequest),
+        Err(SourceFault::Text(fault)) => Response::Refused(fault.refusal()),
     }
 }
 
 /// Returns the program as text.
-pub(crate) fn disassemble<A: Allocator + Copy>(alloc: A, program: &[u8]) -> Answer<'static, A>
+pub(crate) fn disassemble<A: Allocator + Copy>(alloc: A, program: &[u8]) -> Response<'static, A>
     ensures { DisassemblesTo program.now (reply_of result) }
 {
     match disassemble_program(alloc, program) {
-        Ok(text) => Answer::Made {
+        Ok(text) => Response::Made {
             media: MediaType::Plain,
             body: text.into_bytes(),
         },
-        Err(fault) => Answer::Refused(fault.refusal()),
+        Err(fault) => Response::Refused(fault.refusal()),
     }
 }
 
@@ -52,18 +52,19 @@ pub(crate) fn extract<A: Allocator + Copy>(
     alloc: A,
     counties: &[County<A>],
     program: &[u8],
-) -> Answer<'static, A>
+) -> Response<'static, A>
     ensures { ExtractsTo counties.now program.now (reply_of result) }
 {
     let verified = match accept(alloc, program) {
         Ok(verified) => verified,
-        Err(fault) => return Answer::Refused(fault.refusal()),
+        Err(fault) => return Response::Refused(fault.refusal()),
     };
+    // The layer of rows, so that `/extract` has no second path through the segments.
     match lay_out(alloc, &verified, counties, &Layer::Rows) {
-        Ok(rows) => Answer::Made {
+        Ok(rows) => Response::Made {
             media: MediaType::Octets,
             body: rows,
         },
-        Err(_error) => Answer::Refused(Refusal::memory()),
+        Err(_error) => Response::Refused(Refusal::memory()),
     }
 }

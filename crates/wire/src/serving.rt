@@ -1,12 +1,11 @@
 //! Reading and answering one request.
-ghost use Rattle.counted_io.specs.ReaderWriter.{reader, writer};
 ghost use Rattle.std.specs.Prelude.{◌≡◌};
 ghost use Rattle.wire.specs.Answer.{Answers, AnswersAction, memory_reply};
 ghost use Rattle.wire.specs.Counting.{rows_among};
 ghost use Rattle.wire.specs.Reading.{Sends, WritesReply, decision_of, replied, result_of, routed_of, unanswered};
 ghost use Rattle.wire.specs.Serving.{IsServed, IsSummarized, ReturnsRequestRead, written_length, written_rows};
 
-use crate::answer::Answer;
+use crate::answer::Response;
 use crate::counting::rows_among;
 use crate::decision::{Decision, ReadFault, RequestRead, RoutedRequest, read_decision};
 use crate::explanation::explain_program;
@@ -76,15 +75,16 @@ pub fn serve_request<A: Allocator + Copy, R: CountedRead, W: CountedWrite>(
     out: &mut W,
 ) -> Served
     ensures served { IsServed result.result
-        (record { state = state.old; reader = reader R.remaining R.failed_reads input.old; writer = writer W.contents W.counts out.old })
-        (record { state = state.new; reader = reader R.remaining R.failed_reads input.new; writer = writer W.contents W.counts out.new }) }
+        (record { state = state.old; reader = R.reader input.old; writer = W.writer out.old })
+        (record { state = state.new; reader = R.reader input.new; writer = W.writer out.new }) }
     ensures request_read { ReturnsRequestRead result.result
-        (record { state = state.old; reader = reader R.remaining R.failed_reads input.old; writer = writer W.contents W.counts out.old })
-        (record { state = state.new; reader = reader R.remaining R.failed_reads input.new; writer = writer W.contents W.counts out.new }) }
+        (record { state = state.old; reader = R.reader input.old; writer = W.writer out.old })
+        (record { state = state.new; reader = R.reader input.new; writer = W.writer out.new }) }
     ensures summarized { IsSummarized result.summary result.result
-        (record { state = state.old; reader = reader R.remaining R.failed_reads input.old; writer = writer W.contents W.counts out.old })
-        (record { state = state.new; reader = reader R.remaining R.failed_reads input.new; writer = writer W.contents W.counts out.new }) }
+        (record { state = state.old; reader = R.reader input.old; writer = W.writer out.old })
+        (record { state = state.new; reader = R.reader input.new; writer = W.writer out.new }) }
 {
+    // On the stack: a head takes no memory.
     let mut buffer = HeadBuffer::new();
     let decided = match read_decision(state.alloc, &state.routes, &mut buffer, input) {
         Ok(decided) => decided,
@@ -101,14 +101,15 @@ pub fn serve_request<A: Allocator + Copy, R: CountedRead, W: CountedWrite>(
 }
 
 /// Serves like [`serve_request`], but doesn't return how much of the request was read.
+/// No caller in this program: part of the library's fixed interface.
 pub fn serve_one<A: Allocator + Copy, R: CountedRead, W: CountedWrite>(
     state: &mut State<A>,
     input: &mut R,
     out: &mut W,
 ) -> Result<(), WireFault>
     ensures { IsServed result
-        (record { state = state.old; reader = reader R.remaining R.failed_reads input.old; writer = writer W.contents W.counts out.old })
-        (record { state = state.new; reader = reader R.remaining R.failed_reads input.new; writer = writer W.contents W.counts out.new }) }
+        (record { state = state.old; reader = R.reader input.old; writer = W.writer out.old })
+        (record { state = state.new; reader = R.reader input.new; writer = W.writer out.new }) }
 {
     match serve_request(state, input, out).result {
         Ok(_request_read) => Ok(()),
@@ -149,21 +150,19 @@ fn written_rows(route: Option<Route>, sent: Sent) -> u64
 
 /// Writes the reply for a failed allocation of the body.
 fn write_out_of_memory<A: Allocator, W: CountedWrite>(out: &mut W) -> Sent
-    ensures { Sends memory_reply result
-        (writer W.contents W.counts out.old) (writer W.contents W.counts out.new) }
+    ensures { Sends memory_reply result (W.writer out.old) (W.writer out.new) }
 {
-    Answer::<A>::Refused(Refusal::memory()).write(out)
+    Response::<A>::Refused(Refusal::memory()).write(out)
 }
 
 impl<A: Allocator + Copy> State<A> {
     /// Writes the reply to a decision.
     fn answer<W: CountedWrite>(&mut self, decision: &Decision<'_, A>, out: &mut W) -> Sent
-        ensures { WritesReply (λ reply. Answers self.old (decision_of decision.now) reply self.new) result
-            (writer W.contents W.counts out.old) (writer W.contents W.counts out.new) }
+        ensures { WritesReply (λ reply. Answers self.old (decision_of decision.now) reply self.new) result (W.writer out.old) (W.writer out.new) }
     {
         match decision {
-            Decision::Refuses(status) => Answer::<A>::Status(*status).write(out),
-            Decision::Disallows(route) => Answer::<A>::Disallowed(*route).write(out),
+            Decision::Refuses(status) => Response::<A>::Status(*status).write(out),
+            Decision::Disallows(route) => Response::<A>::Disallowed(*route).write(out),
             Decision::Accepts(request) => self.answer_request(request, out),
         }
     }
@@ -175,13 +174,13 @@ impl<A: Allocator + Copy> State<A> {
         out: &mut W,
     ) -> Sent
         ensures { WritesReply (λ reply. AnswersAction request.now.action self.old (routed_of request.now) reply self.new) result
-            (writer W.contents W.counts out.old) (writer W.contents W.counts out.new) }
+            (W.writer out.old) (W.writer out.new) }
     {
         let query = request.target.query;
         let body = request.body.as_slice();
         match request.action {
-            Action::Index => Answer::<A>::Text(index()).write(out),
-            Action::Health => Answer::<A>::Text("ok\n").write(out),
+            Action::Index => Response::<A>::Text(index()).write(out),
+            Action::Health => Response::<A>::Text("ok\n").write(out),
             Action::Verify => verify(self.alloc, body).write(out),
             Action::Assemble => assemble(self.alloc, body).write(out),
             Action::Disassemble => disassemble(self.alloc, body).write(out),

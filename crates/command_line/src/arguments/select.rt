@@ -6,7 +6,8 @@ ghost use Rattle.command_line.specs.Values.{ReadsUnlessMemory, rows_in};
 ghost use Rattle.command_line.specs.declared.arguments.subcommand.Subcommand.TheVariants as Subcommand;
 
 use crate::argument::{
-    Argument, ArgumentKind, COLUMNS, COUNTIES, DATA, Declaration, FORMAT, GEOMETRY, LANGUAGE, SCORE,
+    ArgumentKind, COLUMNS, COUNTIES, DATA, Declaration, DeclaredArgument, FORMAT, GEOMETRY,
+    LANGUAGE, SCORE,
 };
 use crate::fault::ArgumentsFault;
 use crate::layer_options::layer;

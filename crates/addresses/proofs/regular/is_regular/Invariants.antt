@@ -1,5 +1,5 @@
 use Rattle.std.proofs.Common.{◌≡◌, drop}
-use Rattle.addresses.specs.declared.regular.Part.TheVariants.{Start}
+use Rattle.addresses.specs.declared.regular.RecordPart.TheVariants.{Start}
 use Rattle.addresses.proofs.RegularLemmas.{walk}
 use Rattle.addresses.proofs.regular.is_regular.Given as goal
 

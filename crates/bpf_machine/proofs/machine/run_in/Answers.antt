@@ -38,7 +38,7 @@ loop-steps-preserved g c =
 pub unreachable-requires : goal.unreachable-requires
 unreachable-requires g c =
     let found = c.loop-steps.invariant in
-    let all = c.flat_forms-flat_forms.ensures.value.count_is in
+    let all = c.flat_forms-flat_forms.ensures.forms.count_is in
     has_exited c.args.verified.now.code c.args.segment.now c.loop-steps._steps found.0
     (c.flat_forms-flat_forms.ensures.safe.exits c.args.segment.now c.bytes-bytes.ensures.whole) found.1
     (omega (arith, c.loop-steps-test.false))

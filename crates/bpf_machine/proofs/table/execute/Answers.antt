@@ -1,5 +1,5 @@
 use Rattle.std.proofs.Common.{rules}
-use Rattle.bpf_flat.specs.Flat.{parts_of}
+use Rattle.bpf_flat_insn.specs.Flat.{parts_of}
 use Rattle.bpf_machine.specs.Words.{next_words}
 use Rattle.bpf_machine.proofs.table.execute.Goals as goal
 

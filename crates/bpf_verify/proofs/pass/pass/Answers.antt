@@ -1,4 +1,4 @@
-use Rattle.std.proofs.Common.{◌≡◌, ◌+◌, ◌<◌, ◌++◌, ◌∷◌, [], ℕ, List, Option, Some, length, take, get_or, refl, sym, ap, subst, ◌∙◌, arith, rules}
+use Rattle.std.proofs.Common.{◌≡◌, ◌+◌, ◌<◌, ◌≤◌, ◌++◌, ◌∷◌, [], ℕ, List, Option, Some, length, take, get_or, refl, sym, ap, subst, ◌∙◌, arith, rules}
 use Rattle.std.proofs.lemmas.List.{length-take-le, take_all, take_more}
 use Rattle.bpf_insn.specs.Code.{instruction_at}
 use Rattle.bpf_insn.specs.declared.instruction.Insn.{Insn}
@@ -8,7 +8,7 @@ use Rattle.bpf_flow.specs.Flow.{IsForward}
 use Rattle.bpf_verify.specs.Annotation.{area_of}
 use Rattle.bpf_verify.specs.Pass.{PassState, AreProper, Visits, pending, visit_of}
 use Rattle.bpf_verify.specs.Visit.{Visit}
-use Rattle.bpf_verify.proofs.AreaLemmas.{all_have_immediates, one_more_has_immediates}
+use Rattle.bpf_verify.proofs.AreaLemmas.{all_have_immediates, areas_hold, one_more_has_immediates}
 use Rattle.bpf_verify.proofs.SoundRuns.{good_is_safe}
 use Rattle.bpf_verify.proofs.PassLemmas.{IsAnnotatedUpTo, length-found, starts, continues, refuses, accepts, shows, shows_refusal}
 use Rattle.bpf_verify.proofs.VisitLemmas.{visited_all-more}
@@ -114,11 +114,17 @@ returns-in_err-visit-clause-shown_refusal g c =
     c.in_err-visit.field-0.0 c.in_err-visit.ensures.err c.in_err-visit.ensures.shown_refusal in
     search rules
 
+pub returns-clause-areas : goal.returns-clause-areas
+returns-clause-areas g c =
+    let long = ap length (c.instructions-instructions.ensures.value ∙ c.code.ensures.value) in
+    let all : length c.args.flow.now.code ≤ c.loop-insn.insn-index = omega (arith, c.loop-insn-test.false) in
+    areas_hold c.args.flow.now.code _ c.code.ensures.forward (all_have_immediates _ _ all c.loop-insn.invariant.immediates)
+    (accepts _ _ c.loop-insn.worklist _ (take_all c.loop-insn.insn-index c.args.flow.now.code all) c.loop-insn.invariant.progress)
+
 pub returns-clause-safe : goal.returns-clause-safe
 returns-clause-safe g c =
-    let same = c.instructions-instructions.ensures.value ∙ c.code.ensures.value in
-    let long = ap length same in
-    let accepted = accepts _ _ c.loop-insn.worklist _ (take_all c.loop-insn.insn-index c.args.flow.now.code (omega (arith, c.loop-insn-test.false)))
-    c.loop-insn.invariant.progress in
-    good_is_safe c.args.flow.now.code c.code.ensures.forward (all_have_immediates c.args.flow.now.code (λ index insn below.
-    c.loop-insn.invariant.immediates index insn (omega (arith, c.loop-insn-test.false)))) (accepted.annotation, accepted.is_least.good)
+    let long = ap length (c.instructions-instructions.ensures.value ∙ c.code.ensures.value) in
+    let all : length c.args.flow.now.code ≤ c.loop-insn.insn-index = omega (arith, c.loop-insn-test.false) in
+    let accepted = accepts _ _ c.loop-insn.worklist _ (take_all c.loop-insn.insn-index c.args.flow.now.code all) c.loop-insn.invariant.progress in
+    good_is_safe c.args.flow.now.code c.code.ensures.forward (all_have_immediates _ _ all c.loop-insn.invariant.immediates)
+    (accepted.annotation, accepted.is_least.good)

@@ -1,12 +1,10 @@
 use Rattle.std.proofs.Common.{◌≤◌, length}
-use Rattle.counted_io.specs.ReaderWriter.{writer}
 use Rattle.commands.proofs.EscapeLemmas.{WritesFront}
 use Rattle.commands.proofs.escape.write_escaped.Given as goal
 
 abbrev pub invariant-loop-place : goal.invariant-loop-place
 invariant-loop-place g l = record {
-  wrote : WritesFront l.text l.rest (writer g.W.Write.contents g.W.CountedWrite.counts l.initial.out)
-      (writer g.W.Write.contents g.W.CountedWrite.counts l.out);
+  wrote : WritesFront l.text l.rest (g.W.CountedWrite.writer l.initial.out) (g.W.CountedWrite.writer l.out);
   within : length l.rest ≤ length l.text;
 }
 

@@ -1,6 +1,5 @@
 use Rattle.std.proofs.Common.{Ok, take}
 use Rattle.std.specs.List.{flat_map}
-use Rattle.counted_io.specs.ReaderWriter.{writer}
 use Rattle.counted_io.specs.Writing.{WritesText}
 use Rattle.commands.specs.Failure.{reported}
 use Rattle.commands.proofs.failure.write_pieces.Given as goal
@@ -9,4 +8,4 @@ use Rattle.commands.proofs.failure.write_pieces.Given as goal
 abbrev pub invariant-loop-piece : goal.invariant-loop-piece
 invariant-loop-piece g l =
     WritesText (flat_map reported (take l.piece-index l.pieces)) (Ok tt)
-    (writer g.E.Write.contents g.E.CountedWrite.counts l.initial.errors) (writer g.E.Write.contents g.E.CountedWrite.counts l.errors)
+    (g.E.CountedWrite.writer l.initial.errors) (g.E.CountedWrite.writer l.errors)

@@ -1,6 +1,5 @@
 use Rattle.std.proofs.Common.{Ok, take}
 use Rattle.std.specs.List.{flat_map}
-use Rattle.counted_io.specs.ReaderWriter.{writer}
 use Rattle.counted_io.specs.Writing.{WritesText}
 use Rattle.commands.proofs.failure.write_texts.Given as goal
 
@@ -8,4 +7,4 @@ use Rattle.commands.proofs.failure.write_texts.Given as goal
 abbrev pub invariant-loop-text : goal.invariant-loop-text
 invariant-loop-text g l =
     WritesText (flat_map (λ text. text.now) (take l.text-index l.texts)) (Ok tt)
-    (writer g.E.Write.contents g.E.CountedWrite.counts l.initial.errors) (writer g.E.Write.contents g.E.CountedWrite.counts l.errors)
+    (g.E.CountedWrite.writer l.initial.errors) (g.E.CountedWrite.writer l.errors)

@@ -1,6 +1,5 @@
 use Rattle.std.proofs.Common.{Ok, take}
 use Rattle.geocode.specs.HitLine.{hit_lines}
-use Rattle.counted_io.specs.ReaderWriter.{writer}
 use Rattle.counted_io.specs.Writing.{WritesText}
 use Rattle.commands.proofs.geocoder.write_lines.Given as goal
 
@@ -8,4 +7,4 @@ use Rattle.commands.proofs.geocoder.write_lines.Given as goal
 abbrev pub invariant-loop-hit : goal.invariant-loop-hit
 invariant-loop-hit g l =
     WritesText (hit_lines (take l.hit-index l.hits)) (Ok tt)
-    (writer g.W.Write.contents g.W.CountedWrite.counts l.initial.out) (writer g.W.Write.contents g.W.CountedWrite.counts l.out)
+    (g.W.CountedWrite.writer l.initial.out) (g.W.CountedWrite.writer l.out)

@@ -1,20 +1,20 @@
 use Rattle.std.proofs.Common.{Err, ◌∙◌}
-use Rattle.named_files.specs.Files.{disk}
-use Rattle.commands.proofs.LayerLemmas.{layer_closes, layer_from}
+use Rattle.commands.proofs.LayerLemmas.{layer_closes}
+use Rattle.commands.proofs.ReadLemmas.{county_from}
 use Rattle.commands.proofs.SelectLemmas.{stopped_counts, stopped_fails}
 use Rattle.commands.proofs.select.select_county.Goals as goal
 
 pub returns-in-Err-written-clause-counts : goal.returns-in-Err-written-clause-counts
 returns-in-Err-written-clause-counts g c =
     rw c.of_county_extract.ensures (stopped_counts _ _ c.args.folder.now c.args.code c.in-Err-written.fault
-    (layer_closes c.in-Ok.ensures.hold (layer_from c.in-Ok.ensures.opens.reads c.close_layer.ensures.reads) _ _
+    (layer_closes c.in-Ok.ensures.hold (county_from c.in-Ok.ensures.opens.reads c.close_county.ensures.reads) _ _
     (Err c.in-Err-written.fault) c.in-Err-written.ensures)
-    (c.close_layer.ensures.opens ∙ c.in-Ok.ensures.opens.opens))
+    (c.close_county.ensures.opens ∙ c.in-Ok.ensures.opens.opens))
 
 pub returns-in-Err-written-clause-fails : goal.returns-in-Err-written-clause-fails
 returns-in-Err-written-clause-fails g c =
     rw c.of_county_extract.ensures (stopped_fails g.F.Files.opens
-    (disk g.F.Files.bytes g.F.Files.failed_opens g.F.Files.failed_reads c.args.files.now)
-    (disk g.F.Files.bytes g.F.Files.failed_opens g.F.Files.failed_reads c.close_layer.new.files) c.args.folder.now c.args.code c.in-Err-written.fault
-    (layer_closes c.in-Ok.ensures.hold (layer_from c.in-Ok.ensures.opens.reads c.close_layer.ensures.reads) _ _
+    (g.F.Files.disk c.args.files.now)
+    (g.F.Files.disk c.close_county.new.files) c.args.folder.now c.args.code c.in-Err-written.fault
+    (layer_closes c.in-Ok.ensures.hold (county_from c.in-Ok.ensures.opens.reads c.close_county.ensures.reads) _ _
     (Err c.in-Err-written.fault) c.in-Err-written.ensures))

@@ -6,8 +6,8 @@ use Rattle.counted_io.proofs.writing.write_text.Given as goal
 abbrev pub invariant-loop-rest : goal.invariant-loop-rest
 invariant-loop-rest g l =
     (count : ℕ) × (count ≤ length l.text) × (l.rest ≡ drop count l.text)
-    × Appends (g.W.Write.contents l.initial.out) (g.W.Write.contents l.out) (take count l.text)
-    × (g.W.CountedWrite.counts l.out ≡ g.W.CountedWrite.counts l.initial.out)
+    × Appends (g.W.CountedWrite.writer l.initial.out).held (g.W.CountedWrite.writer l.out).held (take count l.text)
+    × ((g.W.CountedWrite.writer l.out).counts ≡ (g.W.CountedWrite.writer l.initial.out).counts)
 
 abbrev pub decreases-loop-rest : goal.decreases-loop-rest
 decreases-loop-rest g l = length l.rest

@@ -2,7 +2,7 @@ use Rattle.std.proofs.Common.{◌+◌, ◌==◌, ℕ, Bool, not, length, refl, s
 use Rattle.std.proofs.lemmas.Bool.{eqb-false}
 use Rattle.cql2_code.specs.Grid.{IsLaid, Laid, lay_row}
 use Rattle.cql2_code.specs.Lowering.{cell}
-use Rattle.cql2_code.proofs.CutLemmas.{first_and_rest, row_of, rows_behind, rows_empty, rows_next, taken_behind}
+use Rattle.cql2_code.proofs.CutLemmas.{IsManyAndRest, first_and_rest, row_of, rows_behind, rows_empty, rows_next, taken_behind}
 use Rattle.cql2_code.proofs.GridLemmas.{rows_length}
 use Rattle.cql2_code.proofs.Laying.{laid_refused, rows_laid, rows_none, rows_refused, rows_words}
 use Rattle.cql2_code.proofs.patterns.+prepend_rows.Goals as goal
@@ -15,8 +15,13 @@ pub overflow_cast-piece : goal.overflow_cast-piece
 overflow_cast-piece g t c =
     let split = first_and_rest c.in-Some.behind.now c.split_at.result.0.now c.split_at.result.1.now c.first_length.result
     c.first_length.ensures.value c.split_at.ensures.front c.split_at.ensures.back in
-    let takes = taken_behind c.args.pattern.now c.in-Some._many.now c.in-Some.behind.now c.split_at.result.0.now c.split_at.result.1.now
-    c.in-Some.ensures.cases.0 c.requires.begins split in
+    let cut : IsManyAndRest c.args.pattern.now c.in-Some.behind.now c.split_at.result.0.now c.split_at.result.1.now = record {
+      part = c.in-Some._many.now;
+      is = c.in-Some.ensures.cases.0;
+      begins = c.requires.begins;
+      split = split;
+    } in
+    let takes = taken_behind _ _ _ _ cut in
     let within = c.args.search.is_field.0 in
     omega arith
 
@@ -24,8 +29,13 @@ pub overflow_add-from : goal.overflow_add-from
 overflow_add-from g t c =
     let split = first_and_rest c.in-Some.behind.now c.split_at.result.0.now c.split_at.result.1.now c.first_length.result
     c.first_length.ensures.value c.split_at.ensures.front c.split_at.ensures.back in
-    let takes = taken_behind c.args.pattern.now c.in-Some._many.now c.in-Some.behind.now c.split_at.result.0.now c.split_at.result.1.now
-    c.in-Some.ensures.cases.0 c.requires.begins split in
+    let cut : IsManyAndRest c.args.pattern.now c.in-Some.behind.now c.split_at.result.0.now c.split_at.result.1.now = record {
+      part = c.in-Some._many.now;
+      is = c.in-Some.ensures.cases.0;
+      begins = c.requires.begins;
+      split = split;
+    } in
+    let takes = taken_behind _ _ _ _ cut in
     let within = c.args.search.is_field.0 in
     omega arith
 
@@ -33,8 +43,13 @@ pub prepend_rows-requires-2 : goal.prepend_rows-requires-2
 prepend_rows-requires-2 g t c κs within =
     let split = first_and_rest c.in-Some.behind.now c.split_at.result.0.now c.split_at.result.1.now c.first_length.result
     c.first_length.ensures.value c.split_at.ensures.front c.split_at.ensures.back in
-    let takes = taken_behind c.args.pattern.now c.in-Some._many.now c.in-Some.behind.now c.split_at.result.0.now c.split_at.result.1.now
-    c.in-Some.ensures.cases.0 c.requires.begins split in
+    let cut : IsManyAndRest c.args.pattern.now c.in-Some.behind.now c.split_at.result.0.now c.split_at.result.1.now = record {
+      part = c.in-Some._many.now;
+      is = c.in-Some.ensures.cases.0;
+      begins = c.requires.begins;
+      split = split;
+    } in
+    let takes = taken_behind _ _ _ _ cut in
     (search rules, (search rules, (split.first, (omega arith, (search rules, search rules)))))
 
 pub returns-in_err-prepend_rows : goal.returns-in_err-prepend_rows
@@ -42,8 +57,13 @@ returns-in_err-prepend_rows g t c =
     let other = eqb-false (length c.split_at.result.0.now) 0 (sym c.is_empty.ensures ∙ c.if-is_empty.false) in
     let split = first_and_rest c.in-Some.behind.now c.split_at.result.0.now c.split_at.result.1.now c.first_length.result
     c.first_length.ensures.value c.split_at.ensures.front c.split_at.ensures.back in
-    let next = rows_next c.args.search.field c.args.from c.args.pattern.now c.in-Some._many.now c.in-Some.behind.now
-    c.split_at.result.0.now c.split_at.result.1.now c.in-Some.ensures.cases.0 c.requires.begins split (omega arith) in
+    let cut : IsManyAndRest c.args.pattern.now c.in-Some.behind.now c.split_at.result.0.now c.split_at.result.1.now = record {
+      part = c.in-Some._many.now;
+      is = c.in-Some.ensures.cases.0;
+      begins = c.requires.begins;
+      split = split;
+    } in
+    let next = rows_next c.args.search.field c.args.from _ _ _ _ cut (omega arith) in
     laid_refused _ c.from_residual.result _ _ c.from_residual.ensures.1
     (rw next (rows_refused _ _ _ _ _ _ c.in_err-prepend_rows.ensures))
 
@@ -58,8 +78,13 @@ pub prepend_cells-requires-clause-fits : goal.prepend_cells-requires-clause-fits
 prepend_cells-requires-clause-fits g t c =
     let split = first_and_rest c.in-Some.behind.now c.split_at.result.0.now c.split_at.result.1.now c.first_length.result
     c.first_length.ensures.value c.split_at.ensures.front c.split_at.ensures.back in
-    let takes = taken_behind c.args.pattern.now c.in-Some._many.now c.in-Some.behind.now c.split_at.result.0.now c.split_at.result.1.now
-    c.in-Some.ensures.cases.0 c.requires.begins split in
+    let cut : IsManyAndRest c.args.pattern.now c.in-Some.behind.now c.split_at.result.0.now c.split_at.result.1.now = record {
+      part = c.in-Some._many.now;
+      is = c.in-Some.ensures.cases.0;
+      begins = c.requires.begins;
+      split = split;
+    } in
+    let takes = taken_behind _ _ _ _ cut in
     let below : Laid = record { code = c.args.code.now; starts = c.args.starts.now } in
     let count = rows_length
     (rows_behind c.args.search.field (c.args.from + length c.split_at.result.0.now) c.split_at.result.1.now) c.args.search.exits.falls
@@ -73,8 +98,13 @@ returns g t c =
     let other = eqb-false (length c.split_at.result.0.now) 0 (sym c.is_empty.ensures ∙ c.if-is_empty.false) in
     let split = first_and_rest c.in-Some.behind.now c.split_at.result.0.now c.split_at.result.1.now c.first_length.result
     c.first_length.ensures.value c.split_at.ensures.front c.split_at.ensures.back in
-    let next = rows_next c.args.search.field c.args.from c.args.pattern.now c.in-Some._many.now c.in-Some.behind.now
-    c.split_at.result.0.now c.split_at.result.1.now c.in-Some.ensures.cases.0 c.requires.begins split (omega arith) in
+    let cut : IsManyAndRest c.args.pattern.now c.in-Some.behind.now c.split_at.result.0.now c.split_at.result.1.now = record {
+      part = c.in-Some._many.now;
+      is = c.in-Some.ensures.cases.0;
+      begins = c.requires.begins;
+      split = split;
+    } in
+    let next = rows_next c.args.search.field c.args.from _ _ _ _ cut (omega arith) in
     let row = λ (last more : Bool) (shift : ℕ). cell c.args.search.field c.split_at.result.0.now last more (c.args.from + shift) in
     let laid = subst (λ (last : Bool). IsLaid c.prepend_cells.result
     (lay_row (row last (not (length c.split_at.result.1.now == 0))) 0 c.prepend_rows-2.new.starts c.exits_before-past.result.skip c.prepend_rows-2.new.code)

@@ -1,7 +1,7 @@
 use Rattle.std.proofs.Common.{◌≡◌, ◌≢◌, ◌<◌, ◌^◌, w64, pos, ◌+ℤ◌, ◌-ℤ◌, ◌*ℤ◌, int_div, FitsSigned, refl, ap, sym, ◌∙◌, arith}
 use Rattle.std.proofs.lemmas.Bool.Decides.{nat_tests}
 use Rattle.std.proofs.lemmas.Int.{fits_signed_from_abs, to_z-of_z}
-use Rattle.line_places.proofs.ShareLemmas.{difference_is, sum-fits}
+use Rattle.linear_referencing.proofs.ShareLemmas.{difference_is, sum-fits}
 use Rattle.geocode.proofs.MeasureLemmas.{coordinate_along-apart}
 use Rattle.geocode.proofs.measure.coordinate_along.Goals as goal
 

@@ -1,12 +1,10 @@
 use Rattle.std.proofs.Common.{◌≡◌, ◌-◌, length, vec_len}
-use Rattle.counted_io.specs.ReaderWriter.{reader}
 use Rattle.http_message.proofs.BodyLemmas.{IsBodySoFar}
 use Rattle.http_message.proofs.body.read_body.Given as goal
 
 abbrev pub invariant-loop-piece : goal.invariant-loop-piece
 invariant-loop-piece g l = record {
-  so_far : IsBodySoFar l.after_head l.length l.body.items (reader g.R.Read.remaining g.R.CountedRead.failed_reads l.initial.input)
-      (reader g.R.Read.remaining g.R.CountedRead.failed_reads l.input);
+  so_far : IsBodySoFar l.after_head l.length l.body.items (g.R.CountedRead.reader l.initial.input) (g.R.CountedRead.reader l.input);
   room : length l.piece ≡ 16384;
 }
 

@@ -1,6 +1,6 @@
 use Rattle.std.proofs.Common.{◌≡◌, ◌*◌, ◌+◌, take, arith}
 use Rattle.std.specs.Str.Parse.{digits_value}
-use Rattle.decimal.proofs.NumeralLemmas.{digits_value-next}
+use Rattle.numerals.proofs.NumeralLemmas.{digits_value-next}
 use Rattle.http_message.proofs.NumberLemmas.{up_to_limit-large, digit_at}
 use Rattle.http_message.proofs.length.number_up_to_limit.Goals as goal
 

@@ -1,5 +1,4 @@
 use Rattle.std.proofs.Common.{◌≡◌, take}
-use Rattle.counted_io.specs.ReaderWriter.{writer}
 use Rattle.extract.specs.Extracting.{WritesSelected}
 use Rattle.layers.specs.Counties.{segments_of}
 use Rattle.layers.proofs.counties.write_counties.Given as goal
@@ -8,6 +7,6 @@ use Rattle.layers.proofs.counties.write_counties.Given as goal
 abbrev pub invariant-loop-county : goal.invariant-loop-county
 invariant-loop-county g l = record {
   written : WritesSelected (g.F.Format.text_of l.initial.format) l.verified.code (segments_of (take l.county-index l.counties))
-      (writer g.W.Write.contents g.W.CountedWrite.counts l.initial.out) (writer g.W.Write.contents g.W.CountedWrite.counts l.out);
+      (g.W.CountedWrite.writer l.initial.out) (g.W.CountedWrite.writer l.out);
   same : g.F.Format.text_of l.format ≡ g.F.Format.text_of l.initial.format;
 }

@@ -1,5 +1,4 @@
 use Rattle.std.proofs.Common.{◌≡◌, ℕ, List, ◌++◌, ap, ap₂, subst, ◌∙◌}
-use Rattle.counted_io.specs.ReaderWriter.{writer}
 use Rattle.counted_io.specs.Writing.{WritesText}
 use Rattle.layers.proofs.RowLemmas.{header_is}
 use Rattle.layers.specs.CsvTable.{header_text, names_text}
@@ -8,7 +7,7 @@ use Rattle.layers.proofs.csv_table.write_header.Goals as goal
 
 pub returns : goal.returns
 returns g c =
-    let value_of = writer g.W.Write.contents g.W.CountedWrite.counts in
+    let value_of = g.W.CountedWrite.writer in
     let table : LayoutParts = record { columns = c.args.columns.now; geometry = c.args.geometry } in
     let names = c.push_names.ensures.text ∙ ap names_text c.as_slice.ensures.value in
     let text_is : c.as_slice-2.result.now ≡ header_text table =

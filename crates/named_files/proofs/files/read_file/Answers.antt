@@ -1,5 +1,4 @@
 use Rattle.std.proofs.Common.{◌∙◌}
-use Rattle.named_files.specs.Files.{disk}
 use Rattle.named_files.proofs.FileLemmas.{read_fault, used, named_close}
 use Rattle.named_files.proofs.files.read_file.Goals as goal
 
@@ -10,8 +9,8 @@ returns-in-Ok-clause-uses g c =
 
 pub returns-in-Ok-clause-fault : goal.returns-in-Ok-clause-fault
 returns-in-Ok-clause-fault g c =
-    read_fault c.args.name.now (disk g.F.Files.bytes g.F.Files.failed_opens g.F.Files.failed_reads c.args.files.now)
-    (disk g.F.Files.bytes g.F.Files.failed_opens g.F.Files.failed_reads c.close.new.self)
+    read_fault c.args.name.now (g.F.Files.disk c.args.files.now)
+    (g.F.Files.disk c.close.new.self)
     (c.close.ensures.opens ∙ c.in-Ok.ensures.opens.opens) c.in-Ok.ensures.known.failed c.in-Ok.ensures.opens.reads
     (named_close c.in-Ok.ensures.name c.close.ensures.reads) g.F.Files.opens c.in-Ok.file.reader c.in-Ok.ensures.opened c.read_to_end-read.result
     c.read_to_end-read.ensures.reads

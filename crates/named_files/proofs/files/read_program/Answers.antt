@@ -7,7 +7,7 @@ use Rattle.named_files.proofs.files.read_program.Goals as goal
 pub returns-in-Ok-complete-clause-program : goal.returns-in-Ok-complete-clause-program
 returns-in-Ok-complete-clause-program g c =
     let all = c.in-Ok-complete.ensures.ok c.loop.invariant.0 c.loop.invariant.2 in (
-      subst (λ (bytes : List ℕ). Keeps (g.R.Read.remaining c.args.input.now) (Some bytes)) (sym all.0)
+      subst (λ (bytes : List ℕ). Keeps (g.R.CountedRead.reader c.args.input.now).left (Some bytes)) (sym all.0)
           (read_whole c.loop.invariant.0 c.read_counted.new.buf _ _ _ _ c.loop.invariant.1 c.in-Ok-eq0.ensures.bytes
           c.in-Ok-eq0.field-0-test (search rules)),
       all.1,

@@ -1,6 +1,5 @@
 use Rattle.std.proofs.Common.{ap, ◌∙◌}
 use Rattle.named_files.specs.County.{path_of}
-use Rattle.named_files.specs.Files.{disk}
 use Rattle.named_files.proofs.FileLemmas.{read_program_fault, used_program, named_close}
 use Rattle.named_files.proofs.files.read_program_file.Goals as goal
 
@@ -12,8 +11,8 @@ returns-in-Ok-clause-uses g c =
 
 pub returns-in-Ok-clause-fault : goal.returns-in-Ok-clause-fault
 returns-in-Ok-clause-fault g c =
-    read_program_fault c.args.name.now (disk g.F.Files.bytes g.F.Files.failed_opens g.F.Files.failed_reads c.args.files.now)
-    (disk g.F.Files.bytes g.F.Files.failed_opens g.F.Files.failed_reads c.close.new.self)
+    read_program_fault c.args.name.now (g.F.Files.disk c.args.files.now)
+    (g.F.Files.disk c.close.new.self)
     (c.close.ensures.opens ∙ c.in-Ok.ensures.opens.opens) c.in-Ok.ensures.known.failed c.in-Ok.ensures.opens.reads
     (named_close (ap path_of c.read_program-read.ensures.name ∙ c.in-Ok.ensures.name) c.close.ensures.reads)
     g.F.Files.opens c.in-Ok.file.reader c.in-Ok.ensures.opened c.read_program-read.result c.read_program-read.ensures.reads

@@ -5,6 +5,6 @@ use Rattle.named_files.proofs.files.read_to_end.Given as goal
 -- the bytes are what was read, and no read failed
 abbrev pub invariant-loop : goal.invariant-loop
 invariant-loop g l = record {
-  read : Consumes (g.R.Read.remaining l.initial.reader) (g.R.Read.remaining l.reader) l.bytes.items;
-  reads : g.R.CountedRead.failed_reads l.reader ≡ g.R.CountedRead.failed_reads l.initial.reader;
+  read : Consumes (g.R.CountedRead.reader l.initial.reader).left (g.R.CountedRead.reader l.reader).left l.bytes.items;
+  reads : (g.R.CountedRead.reader l.reader).failed ≡ (g.R.CountedRead.reader l.initial.reader).failed;
 }

@@ -1,5 +1,4 @@
 use Rattle.std.proofs.Common.{◌-◌, ◌^◌}
-use Rattle.counted_io.specs.ReaderWriter.{reader}
 use Rattle.tl_segments.specs.County.{HoldsSegments}
 use Rattle.tl_segments.specs.SharedLists.{HoldsShared}
 use Rattle.tl_segments.specs.declared.fault.CountyFile.TheVariants.{Rt1}
@@ -10,8 +9,8 @@ abbrev pub invariant-loop-line : goal.invariant-loop-line
 invariant-loop-line g l = record {
   so_far :
       HoldsSoFar Rt1 (HoldsSegments l.index l.segments.items l.tlids.items) l.line
-      (reader g.R.Read.remaining g.R.CountedRead.failed_reads l.initial.input)
-      (reader g.R.Read.remaining g.R.CountedRead.failed_reads l.input);
+      (g.R.CountedRead.reader l.initial.input)
+      (g.R.CountedRead.reader l.input);
   shared : HoldsShared l.index l.shared;
 }
 

@@ -1,6 +1,5 @@
 use Rattle.std.proofs.Common.{ℕ, List, ◌++◌, append_assoc, subst, sym}
 use Rattle.std.specs.Prelude.{codes}
-use Rattle.counted_io.specs.ReaderWriter.{writer}
 use Rattle.commands.specs.Failure.{IsReason, ReportsText, file_line}
 use Rattle.commands.proofs.failure.Failure.report.Goals as goal
 
@@ -24,6 +23,6 @@ returns-in-CountyFile g c = let reason = c.as_str-in-CountyFile in rw c.in-Count
   subst (IsReason c.in-CountyFile.error) (sym reason.ensures.value) c.reason-reason-in-CountyFile.ensures,
   subst (λ (end : List ℕ).
       ReportsText (file_line (c.in-CountyFile.data.now ++ codes "/TGR" ++ c.in-CountyFile.code.now ++ end) reason.result.now)
-      (writer g.E.Write.contents g.E.CountedWrite.counts c.args.errors.now)
-      (writer g.E.Write.contents g.E.CountedWrite.counts c.report_county_file.new.errors)) c.name_end-end.ensures c.report_county_file.ensures,
+      (g.E.CountedWrite.writer c.args.errors.now)
+      (g.E.CountedWrite.writer c.report_county_file.new.errors)) c.name_end-end.ensures c.report_county_file.ensures,
 )

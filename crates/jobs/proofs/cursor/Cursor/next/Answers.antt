@@ -7,18 +7,18 @@ use Rattle.jobs.proofs.SegmentLemmas.{cursor_moved, done_within, drop_found, lef
 use Rattle.jobs.proofs.cursor.Cursor.next.Goals as goal
 
 -- the segments of a county up to `end` are the next ones after those before it
-next_taken : (counties : List CountyParts) (old now : Cursor) (county : CountyParts) (segments : List SegmentParts) (end done : ℕ)
+next_taken : (counties : List CountyParts) (old now : Cursor) {county : CountyParts} {segments : List SegmentParts} (end done : ℕ)
     → drop now.county counties ≡ county ∷ drop (now.county + 1) counties → segments ≡ county.segments → now.segment ≤ end
     → left_at counties now ≡ left_at counties old → left_at counties old
     ≡ take (end - now.segment) (drop now.segment segments) ++ left_at counties (record { done = done; county = now.county; segment = end })
-next_taken counties old now county segments end done here is after same =
-    sym same ∙ rw is (left_taken counties now.done now.county now.segment county here end done after)
+next_taken counties old now end done here is after same =
+    sym same ∙ rw is (left_taken counties now.done now.county now.segment _ here end done after)
 
 pub overflow_add-self : goal.overflow_add-self
 overflow_add-self g c =
     let now = c.loop-county.self in
     let here = drop_found _ _ _ _ c.in-Some.ensures.lookup.0 c.in-Some.ensures.lookup.1 in
-    let next = next_taken c.args.counties.now c.args.self.now now _ c.segments-segments.result.now (now.segment + c.min.result) 0 here
+    let next = next_taken c.args.counties.now c.args.self.now now (now.segment + c.min.result) 0 here
     c.segments-segments.ensures.value (omega arith) c.loop-county.invariant.0 in
     let within = done_within c.args.counties.now c.args.self.now (record { done = 0; county = now.county; segment = now.segment + c.min.result })
     _ c.requires.cursor next in
@@ -30,7 +30,7 @@ pub returns-then-self-segments-clause-cursor : goal.returns-then-self-segments-c
 returns-then-self-segments-clause-cursor g c =
     let now = c.loop-county.self in
     let here = drop_found _ _ _ _ c.in-Some.ensures.lookup.0 c.in-Some.ensures.lookup.1 in
-    let next = next_taken c.args.counties.now c.args.self.now now _ c.segments-segments.result.now (now.segment + c.min.result) 0 here
+    let next = next_taken c.args.counties.now c.args.self.now now (now.segment + c.min.result) 0 here
     c.segments-segments.ensures.value (omega arith) c.loop-county.invariant.0 in
     let same = c.loop-county.invariant.1 in
     let end = now.segment + c.min.result in
@@ -41,7 +41,7 @@ returns-then-self-segments-clause-cursor g c =
 pub returns-then-self-segments-clause-next : goal.returns-then-self-segments-clause-next
 returns-then-self-segments-clause-next g c =
     let here = drop_found _ _ _ _ c.in-Some.ensures.lookup.0 c.in-Some.ensures.lookup.1 in
-    next_taken c.args.counties.now c.args.self.now c.loop-county.self _ c.segments-segments.result.now (c.loop-county.self.segment + c.min.result) 0 here
+    next_taken c.args.counties.now c.args.self.now c.loop-county.self (c.loop-county.self.segment + c.min.result) 0 here
     c.segments-segments.ensures.value (omega arith) c.loop-county.invariant.0
 
 pub loop-county-preserved : goal.loop-county-preserved

@@ -1,8 +1,15 @@
-use Rattle.std.proofs.Common.{None, Some, refl}
+use Rattle.std.proofs.Common.{None, Some, refl, subst, sym}
 use Rattle.std.proofs.lemmas.Result.{err_from_is_err_and}
-use Rattle.jobs.specs.Inside.{parts_of}
+use Rattle.jobs.specs.Inside.{IsCursorIn, parts_of}
 use Rattle.jobs.proofs.TableLemmas.{job_found, jobs_changed, jobs_unchanged, table_changed}
 use Rattle.jobs.proofs.table.Jobs.turn.Goals as goal
+
+pub advance-requires : goal.advance-requires
+advance-requires g c =
+    let found = c.in-Some.ensures.member in
+    rw c.as_slice.ensures.value
+    (subst (λ job. IsCursorIn c.self.inside.counties.items job.cursor) (sym found.1.1)
+    (c.self.invariant.cursors found.0 c.in-Some.job.now found.1.0))
 
 pub returns-in_default-clause-err : goal.returns-in_default-clause-err
 returns-in_default-clause-err g c =

@@ -1,5 +1,5 @@
 use Rattle.layers.specs.FeatureWriter.{parts_in}
-use Rattle.layers.specs.ShapeTable.{table_of}
+use Rattle.tl_segments.specs.Shapes.{table_of}
 use Rattle.layers.proofs.LayerLemmas.{of_record}
 use Rattle.layers.proofs.feature_writer.FeatureWriterFormat.reads_record_alone.Goals as goal
 

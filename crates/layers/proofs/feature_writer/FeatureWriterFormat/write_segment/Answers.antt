@@ -1,18 +1,17 @@
 use Rattle.std.proofs.Common.{◌≡◌, ℕ, List, ◌++◌, Some, None, ap, ap₂, sym, subst, ◌∙◌}
-use Rattle.counted_io.specs.ReaderWriter.{writer}
 use Rattle.counted_io.specs.Writing.{WritesText}
 use Rattle.layers.proofs.LayerLemmas.{with_line, without_line}
 use Rattle.layers.specs.FeatureWriter.{format_of, start_of}
 use Rattle.layers.specs.Geometry.{between, ends_for}
 use Rattle.layers.specs.Layer.{shape_in}
 use Rattle.layers.specs.Layout.{LayoutParts}
-use Rattle.layers.specs.ShapeTable.{table_of}
+use Rattle.tl_segments.specs.Shapes.{table_of}
 use Rattle.layers.specs.Line.{rest_text, start_text}
 use Rattle.layers.proofs.feature_writer.FeatureWriterFormat.write_segment.Goals as goal
 
 pub returns-in-Some-clause-written : goal.returns-in-Some-clause-written
 returns-in-Some-clause-written g c =
-    let value_of = writer g.W.Write.contents g.W.CountedWrite.counts in
+    let value_of = g.W.CountedWrite.writer in
     let self = c.args.self.now in
     let layout : LayoutParts = record { columns = self.columns; geometry = self.geometry } in
     let segment = c.args.segment.now in
@@ -28,7 +27,7 @@ returns-in-Some-clause-written g c =
 
 pub returns-in-None-clause-written : goal.returns-in-None-clause-written
 returns-in-None-clause-written g c =
-    let value_of = writer g.W.Write.contents g.W.CountedWrite.counts in
+    let value_of = g.W.CountedWrite.writer in
     let self = c.args.self.now in
     let layout : LayoutParts = record { columns = self.columns; geometry = self.geometry } in
     let segment = c.args.segment.now in

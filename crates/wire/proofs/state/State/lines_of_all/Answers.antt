@@ -1,6 +1,6 @@
 use Rattle.std.proofs.Common.{Bor, List, ap, map, ◌∙◌, ℕ}
 use Rattle.std.specs.String.{string_bytes}
-use Rattle.batch.specs.Batch.{BatchParts}
+use Rattle.address_batch.specs.Batch.{BatchParts}
 use Rattle.wire.proofs.state.State.lines_of_all.Goals as goal
 
 pub returns-clause-ok : goal.returns-clause-ok

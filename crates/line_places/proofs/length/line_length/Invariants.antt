@@ -1,6 +1,0 @@
-use Rattle.std.proofs.Common.{◌*◌, ◌^◌, ◌≤◌}
-use Rattle.line_places.proofs.LengthLemmas.{IsReached}
-use Rattle.line_places.proofs.length.line_length.Given as goal
-
-abbrev pub invariant-loop-to : goal.invariant-loop-to
-invariant-loop-to l = IsReached l.initial.from l.rest l.to-index l.from l.total × (l.total ≤ l.to-index * 2 ^ 49)

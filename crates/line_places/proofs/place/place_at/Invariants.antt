@@ -1,7 +1,0 @@
-use Rattle.std.proofs.Common.{◌≡◌, ◌<◌, ◌+◌, ℕ}
-use Rattle.line_places.proofs.LengthLemmas.{IsReached}
-use Rattle.line_places.proofs.place.place_at.Given as goal
-
-abbrev pub invariant-loop-to : goal.invariant-loop-to
-invariant-loop-to l =
-    ((start : ℕ) × IsReached l.initial.from l.rest l.to-index l.from start × (l.fn.distance ≡ start + l.left)) × (0 < l.to-index → 0 < l.left)

@@ -1,0 +1,2 @@
+mod DegreesLemmas
+pub mod NumeralLemmas

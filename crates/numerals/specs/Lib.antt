@@ -1,0 +1,3 @@
+pub mod Degrees
+pub mod Millionths
+pub mod Numeral
