@@ -7,7 +7,7 @@ import time
 from collections.abc import Callable
 from pathlib import Path
 
-from counties import EXAMPLES, TOP, copy_county, program_of, records, write_shapes
+from counties import EXAMPLES, JOINED, TOP, copy_county, program_of, records, write_shapes
 
 CODES = ("01001", "01003", "01005", "01007", "02013")
 ROADS = "CFCC LIKE 'A%'"
@@ -21,7 +21,7 @@ def write_counties(folder: Path) -> Path:
     """Writes five counties with shapes, each with different segments of the example county."""
     lines = records(EXAMPLES / "TGR01001.RT1")
     for place, code in enumerate(CODES):
-        copy_county(folder, types="456", code=code)
+        copy_county(folder, types=JOINED, code=code)
         first = place * SEGMENTS
         (folder / f"TGR{code}.RT1").write_bytes(b"\r\n".join(lines[first : first + SEGMENTS]) + b"\r\n")
         write_shapes(folder, code)

@@ -14,16 +14,26 @@ TOP = Path(__file__).parents[2]
 EXAMPLES = TOP / "examples"
 TOOLS = TOP / "tools"
 CODE = "01001"
+# The record types that are joined to type 1. Without a file of one, there is a warning.
+JOINED = "456"
 SEGMENTS = 400
 
 
-def copy_county(folder: Path, types: str = "1456", code: str = CODE, name: Callable[[str], str] = str.upper) -> Path:
+def copy_county(
+    folder: Path, types: str = f"1{JOINED}", code: str = CODE, name: Callable[[str], str] = str.upper
+) -> Path:
     """Copies the example county to a folder, under another code or with names in another case."""
     folder.mkdir(parents=True, exist_ok=True)
     for record_type in types:
         content = (EXAMPLES / f"TGR{CODE}.RT{record_type}").read_bytes()
         (folder / name(f"TGR{code}.RT{record_type}")).write_bytes(content)
     return folder
+
+
+def write_empty(folder: Path, code: str = CODE) -> None:
+    """Writes empty files of the joined types."""
+    for record_type in JOINED:
+        (folder / f"TGR{code}.RT{record_type}").touch()
 
 
 def records(path: Path) -> list[bytes]:

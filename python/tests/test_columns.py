@@ -4,6 +4,7 @@ from pathlib import Path
 from tempfile import TemporaryDirectory
 
 import pytest
+from counties import JOINED
 from tigerline import layout
 from tigerline.extract import ALL_SEGMENTS, ROWS, Output, county_texts
 from tigerline.interrupts import Interrupts
@@ -17,7 +18,7 @@ from hypothesis import given, settings  # noqa: E402
 from hypothesis import strategies as st  # noqa: E402
 from tigerline import columns  # noqa: E402
 
-TYPES = "1456"
+TYPES = f"1{JOINED}"
 
 
 def records_of(alphabet: bytes) -> st.SearchStrategy[bytes]:

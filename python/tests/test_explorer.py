@@ -11,7 +11,7 @@ from typing import Any
 from urllib.parse import parse_qs, quote, urlsplit
 
 import pytest
-from counties import CODE, EXAMPLES, records
+from counties import CODE, EXAMPLES, JOINED, records
 from test_features_command import Running
 from test_pages import MARKUP, TOWN, town_rows, write_data
 
@@ -362,7 +362,7 @@ def test_markup(browser: Browser) -> None:
 def write_towns(folder: Path, count: int) -> None:
     """Writes a county in which the town is there several times, further east each time, on straight lines."""
     folder.mkdir()
-    for record_type in "456":
+    for record_type in JOINED:
         shutil.copy(EXAMPLES / f"town/TGR{TOWN}.RT{record_type}", folder)
     lines = []
     for number in range(count):

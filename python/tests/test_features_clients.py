@@ -13,7 +13,7 @@ from pathlib import Path
 from typing import Any
 
 import pytest
-from counties import CODE, EXAMPLES, SEGMENTS, TOOLS, TOP, gdal_rows, records
+from counties import CODE, EXAMPLES, JOINED, SEGMENTS, TOOLS, TOP, gdal_rows, records, write_empty
 from test_features_command import Running, start  # noqa: F401 (a fixture)
 
 LARGE, TOWN = "01003", "01007"
@@ -40,15 +40,14 @@ def write_large_county(folder: Path) -> None:
             for segment in chain:
                 lines.append(make_county.record(segment | {"TLID": str(int(segment["TLID"]) + seed * 1_000_000)}))
     (folder / f"TGR{LARGE}.RT1").write_bytes(b"\r\n".join(lines) + b"\r\n")
-    for record_type in "456":
-        (folder / f"TGR{LARGE}.RT{record_type}").write_bytes(b"")
+    write_empty(folder, LARGE)
 
 
 @pytest.fixture(scope="module")
 def data(tmp_path_factory: pytest.TempPathFactory) -> Path:
     """Writes three counties. The town has shape points, which the TIGER driver reads, too."""
     folder = tmp_path_factory.mktemp("counties")
-    for source, code, types in ((EXAMPLES, CODE, "1456"), (EXAMPLES / "town", TOWN, "12456")):
+    for source, code, types in ((EXAMPLES, CODE, f"1{JOINED}"), (EXAMPLES / "town", TOWN, f"12{JOINED}")):
         for record_type in types:
             shutil.copy(source / f"TGR{code}.RT{record_type}", folder)
     write_large_county(folder)
@@ -203,8 +202,7 @@ class TestGdal:
         lines = records(EXAMPLES / "TGR01001.RT1")
         changed = [line[:49] + b"Oval" + line[53:] for line in lines[:5]]
         (tmp_path / "TGR01001.RT1").write_bytes(b"\n".join([*lines, *changed, *lines[:2]]) + b"\n")
-        for record_type in "456":
-            (tmp_path / f"TGR01001.RT{record_type}").write_bytes(b"")
+        write_empty(tmp_path)
         service = start("--data", tmp_path)
         found, _ = oapif(service, CODE, "-oo", "PAGE_SIZE=90")
         assert sorted_lines(found) == sorted_lines(gdal_rows(tmp_path / "TGR01001.RT1"))

@@ -17,7 +17,7 @@ from typing import IO
 
 import pytest
 import tigerline
-from counties import CODE, EXAMPLES, TOP, copy_county, program_of, records, zip_folder
+from counties import CODE, EXAMPLES, TOP, copy_county, program_of, records, write_empty, zip_folder
 from test_interrupts import environment, processes_with
 from test_main import run_command as run
 from tigerline.geocoding import geocoder
@@ -286,8 +286,7 @@ class TestFunction:
         line = bytearray(found)
         line[106:111] = line[111:116] = b"07001"
         (tmp_path / "TGR01001.RT1").write_bytes(line)
-        for record_type in "456":
-            (tmp_path / f"TGR01001.RT{record_type}").touch()
+        write_empty(tmp_path)
         (match,) = tigerline.geocode([("1", "5901 Yarrow Blvd", "", "", "7001")], tmp_path)
         assert match.is_exact and match.matched == "5901 YARROW BLVD, , AL, 07001"
         line[190:200] = b" " * 10

@@ -4,7 +4,7 @@ from pathlib import Path
 
 import pytest
 import tigerline
-from counties import CODE
+from counties import CODE, write_empty
 from towns import write_cities
 
 pytestmark = pytest.mark.usefixtures("extractd", "scratch")
@@ -61,8 +61,7 @@ def write_county(folder: Path) -> None:
         )
         lines.append((head + "2000120001").ljust(190) + places + "\n")
     (folder / f"TGR{CODE}.RT1").write_text("".join(lines))
-    for record_type in "456":
-        (folder / f"TGR{CODE}.RT{record_type}").touch()
+    write_empty(folder)
     write_cities(folder / f"TGR{CODE}.RTC", CODE, [("20001", "M", "Kelso")])
 
 

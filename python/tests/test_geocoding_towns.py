@@ -4,7 +4,7 @@ from pathlib import Path
 
 import pytest
 import tigerline
-from counties import CODE
+from counties import CODE, write_empty
 from tigerline.geocoding.towns import city_key, state_of
 from towns import write_cities
 
@@ -79,8 +79,7 @@ def write_counties(folder: Path, with_cities: bool = True) -> Path:
         lines[code].append((head + areas).ljust(190) + ends + "\n")
     for code, records in lines.items():
         (folder / f"TGR{code}.RT1").write_text("".join(records), encoding="latin-1")
-        for record_type in "456":
-            (folder / f"TGR{code}.RT{record_type}").touch()
+        write_empty(folder, code)
         if with_cities:
             write_cities(folder / f"tgr{code}.rtc", code, CITIES)
     return folder

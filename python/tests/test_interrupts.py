@@ -12,7 +12,7 @@ from pathlib import Path
 
 import pytest
 import tigerline
-from counties import CODE, EXAMPLES, TOP, program_of, records, zip_folder
+from counties import CODE, EXAMPLES, TOP, program_of, records, write_empty, zip_folder
 from tigerline.interrupts import Interrupts
 from tigerline.layout import NAMES
 
@@ -38,8 +38,7 @@ def large(tmp_path: Path) -> Path:
     folder.mkdir()
     lines = records(EXAMPLES / "TGR01001.RT1") * COPIES
     (folder / "TGR01001.RT1").write_bytes(b"\n".join(lines))
-    for record_type in "456":
-        (folder / f"TGR01001.RT{record_type}").write_bytes(b"")
+    write_empty(folder)
     return zip_folder(folder, tmp_path / "large.zip")
 
 

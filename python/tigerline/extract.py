@@ -13,7 +13,7 @@ from .interrupts import Interrupts
 from .program import PathLike, find_program, run
 from .progress import with_progress
 from .scratch import scratch_folder
-from .sources import County, counties_in, county_files, has_shapes, missing_names
+from .sources import County, counties_in, county_files, has_shapes, missing_names, record_types
 
 # The system's limit on an argument is 131,072 bytes.
 LONGEST_ARGUMENT = 100_000
@@ -143,16 +143,16 @@ def _straight_lines(counties: Sequence[County]) -> str:
     return f"{named} have no file of type 2: their segments are straight lines"
 
 
-def record_types(outputs: Iterable[Output]) -> str:
+def types_for(outputs: Iterable[Output]) -> str:
     """Returns the record types that are read for these outputs."""
-    return "12456" if any(output.geometry == "shape" for output in outputs) else "1456"
+    return record_types(any(output.geometry == "shape" for output in outputs))
 
 
 def county_texts(
     program: str, request: Request, county: County, outputs: Sequence[Output], interrupts: Interrupts
 ) -> CountyTexts:
     """Has `extractd` write one county. An output of all segments is empty if none is selected."""
-    with county_files(county, record_types(outputs), interrupts) as files, scratch_folder() as scratch:
+    with county_files(county, types_for(outputs), interrupts) as files, scratch_folder() as scratch:
         folder = files["1"].parent
         try:
             selected = _selection(program, request, scratch, interrupts)

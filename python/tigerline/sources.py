@@ -33,7 +33,9 @@ _ENTRIES = [entry.split() for entry in re.split(r"[|\n]", _STATES.strip())]
 STATES = {postal: code for postal, code, *_ in _ENTRIES}
 # What may be written for a state, in capitals and without dots, and its postal abbreviation.
 STATE_NAMES = {name.replace("_", " ").upper(): postal for postal, _, *names in _ENTRIES for name in (postal, *names)}
-_FILE = re.compile(r"TGR([0-9]{5})\.(?:RT([12456C])|(ZIP))", re.IGNORECASE)
+# The record types whose lines `extractd` joins to those of type 1. Their files may be missing.
+_JOINED = "456"
+_FILE = re.compile(rf"TGR([0-9]{{5}})\.(?:RT([12{_JOINED}C])|(ZIP))", re.IGNORECASE)
 
 
 class Placed(Protocol):
@@ -174,9 +176,14 @@ def has_shapes(county: County) -> bool:
         return (county.code, "2") in _members(archive, county.archive)
 
 
+def record_types(with_shapes: bool) -> str:
+    """Returns the record types of the files that `extractd` reads for segments."""
+    return f"1{'2' if with_shapes else ''}{_JOINED}"
+
+
 @contextmanager
 def opened_county(county: County, types: str, interrupts: Interrupts) -> Iterator[dict[str, Path]]:
-    """Yields the files of a county by record type, and warns if one of type 4, 5 or 6 is missing."""
+    """Yields the files of a county by record type, and warns if one that is joined is missing."""
     with county_files(county, types, interrupts) as files:
         if missing := missing_names(county, files):
             warnings.warn(missing, stacklevel=2)
@@ -207,8 +214,8 @@ def county_files(county: County, types: str, interrupts: Interrupts) -> Iterator
 
 
 def missing_names(county: County, present: Container[str]) -> str | None:
-    """Returns the names of missing files of type 4, 5 and 6, or None if all are there."""
-    missing = [f"TGR{county.code}.RT{record_type}" for record_type in "456" if record_type not in present]
+    """Returns the names of the joined files that are missing, or None if all are there."""
+    missing = [f"TGR{county.code}.RT{record_type}" for record_type in _JOINED if record_type not in present]
     if not missing:
         return None
     return f"{county.archive or county.folder} has no {', '.join(missing)}: names or address ranges may be missing"

@@ -23,7 +23,7 @@ from pathlib import Path
 from queue import Empty, SimpleQueue
 from typing import Any, Protocol, TypeVar
 
-from ..extract import CountyTexts, Output, Request, county_texts, outputs_of, record_types, reported
+from ..extract import CountyTexts, Output, Request, county_texts, outputs_of, reported, types_for
 from ..interrupts import Interrupts
 from ..program import VERSION, PathLike, Stamp, find_program
 from ..progress import with_progress
@@ -170,7 +170,7 @@ def county_tasks(request: Request, outputs: Sequence[Output], interrupts: Interr
 
 
 def _stamps(county: County, outputs: Sequence[Output]) -> tuple[Stamp, ...]:
-    types = record_types(outputs)
+    types = types_for(outputs)
     files = [county.archive] if county.archive else [county.files[key] for key in sorted(county.files) if key in types]
     return tuple(Stamp.of(path) for path in files)
 

@@ -14,7 +14,7 @@ from ..extract import with_own_paths
 from ..interrupts import Interrupts
 from ..program import run
 from ..scratch import scratch_folder
-from ..sources import County, county_files, has_shapes, missing_names
+from ..sources import County, county_files, has_shapes, missing_names, record_types
 from .addresses import Crossing, Reading, Street
 from .choice import Answer, Hit
 from .crossings import add_crossings, read_ends
@@ -112,8 +112,7 @@ class Lookup:
 
     @contextmanager
     def _opened(self, county: County, order: int, interrupts: Interrupts) -> Iterator[OpenCounty]:
-        types = "12456C" if has_shapes(county) else "1456C"
-        with county_files(county, types, interrupts) as files:
+        with county_files(county, record_types(has_shapes(county)) + "C", interrupts) as files:
             missing = missing_names(county, files)
             if missing and not self.has_warned_of_files:
                 warnings.warn(missing, stacklevel=2)

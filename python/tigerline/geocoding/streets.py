@@ -8,7 +8,7 @@ from collections.abc import Collection, Mapping
 from pathlib import Path
 from typing import NamedTuple
 
-from ..extract import Output, record_types, with_own_paths
+from ..extract import Output, types_for, with_own_paths
 from ..interrupts import Interrupts
 from ..layout import LAYOUTS, number
 from ..program import run
@@ -58,7 +58,7 @@ Ranges = tuple[Range, Range]
 def read_streets(program: str, county: County, interrupts: Interrupts) -> list[Street]:
     """Returns the streets of a county that have coordinates, with shape points if it has a file of type 2."""
     output = Output(COLUMNS, "auto").for_county(county)
-    with opened_county(county, record_types([output]) + "C", interrupts) as files:
+    with opened_county(county, types_for([output]) + "C", interrupts) as files:
         command = [program, "select", f"--where={STREETS}", "--data", str(files["1"].parent)]
         try:
             table = run([*command, *output.options, county.code], interrupts, county=county.code)

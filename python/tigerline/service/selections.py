@@ -17,7 +17,7 @@ from typing import IO
 
 from ..interrupts import Interrupts, kill_group
 from ..program import RefusedError, failure
-from ..sources import County, has_shapes, opened_county
+from ..sources import County, has_shapes, opened_county, record_types
 from .boxes import Extent, extent_of
 from .collections import Collection
 from .geojson import latitude_first, with_properties
@@ -145,9 +145,9 @@ class Processes:
                 raise refused_filter(refused) from None
 
     def _select(self, county: County, selection: FeatureSelection, watch: Watch) -> Lines:
-        types, geometry = ("12456", "shape") if has_shapes(county) else ("1456", "line")
-        with opened_county(county, types, watch) as files, tempfile.TemporaryFile() as output:
-            layer = ["--format", "geojsonseq", "--geometry", geometry]
+        shape = has_shapes(county)
+        with opened_county(county, record_types(shape), watch) as files, tempfile.TemporaryFile() as output:
+            layer = ["--format", "geojsonseq", "--geometry", "shape" if shape else "line"]
             where = [f"--where={selection.text}", *selection.options]
             command = ["select", *where, "--data", str(files["1"].parent), *layer, county.code]
             self._run(command, output, watch, b"", county.code)
