@@ -83,6 +83,12 @@ def columns_in_page(kinds: str) -> list[str]:
     return [column for row in rows for column in row.replace(",", "").split()]
 
 
+def values_in_page(option: str) -> list[str]:
+    """Returns the values of an option in README.md, which has them between bars."""
+    found = re.search(rf"\[--{option} ([a-z|]+)\]", (TOP / "README.md").read_text())
+    return found[1].split("|") if found else []
+
+
 # Columns that a score can be, and all columns.
 SCORES, FIELDS = columns_in_page("number|coordinate"), columns_in_page("number|coordinate|text")
 
@@ -97,9 +103,9 @@ files | addresses.csv | extractd geocode-batch --addresses addr
 folders | town | extractd run --data to
 columns | SCORES | extractd select --score _
 columns of a list | FIELDS | extractd select --columns _
-formats | rows csv geojsonseq | extractd select --format _
+formats | FORMATS | extractd select --format _
 languages | cql2-text cql2-json | extractd compile --filter-lang _
-geometries | none line shape | extractd run --geometry _
+geometries | GEOMETRIES | extractd run --geometry _
 """
 # These shells split words in their own ways.
 BASH_OFFERS = """
@@ -110,7 +116,13 @@ ZSH_OFFERS = """
 counties after --data= | 01001 | extractd select --data=. 0
 the next column | FENAME | extractd select --columns TLID,fen
 """
-LISTS = {"COMMANDS": COMMANDS, "SCORES": SCORES, "FIELDS": FIELDS}
+LISTS = {
+    "COMMANDS": COMMANDS,
+    "SCORES": SCORES,
+    "FIELDS": FIELDS,
+    "FORMATS": values_in_page("format"),
+    "GEOMETRIES": values_in_page("geometry"),
+}
 
 
 class Offer(NamedTuple):
