@@ -14,6 +14,7 @@ import re
 import sys
 import textwrap
 from collections.abc import Iterator
+from functools import partial
 from pathlib import Path
 from typing import NamedTuple
 
@@ -57,6 +58,81 @@ def crates_part() -> str:
         wrapped(f"- `{crate}`: {lowered(without_details(re.sub(CITATION, '', head)))}", "  ")
         for crate, head in heads.items()
     )
+
+
+class FaultType(NamedTuple):
+    crate: str
+    parts: list[str]
+    numbers: list[int]
+
+
+def fault_types() -> dict[str, FaultType]:
+    """Returns each type of faults with a refusal: its crate, the types in it, and the numbers that it gives itself."""
+    types: dict[str, tuple[str, str, str]] = {}
+    for crate in (crate for crate in crate_names() if not crate.endswith("_tests")):
+        for path in sorted((TOP / "crates" / crate / "src").rglob("*.rt")):
+            text = path.read_text(encoding="utf-8")
+            for name, body in re.findall(
+                r"(?s)^pub (?:enum|struct) (\w*(?:Fault|FaultKind|Flaw|Failure|Cause))\b.*?\{(.*?)^\}",
+                text,
+                re.MULTILINE,
+            ):
+                types[name] = (crate, body, text)
+    return {
+        name: FaultType(
+            crate,
+            [part for part in re.findall(r"(?<!`)\b\w+\b", body) if part in types and part != name],
+            own_numbers(name, text, [other for other in types if other != name and types[other][2] == text]),
+        )
+        for name, (crate, body, text) in types.items()
+    }
+
+
+def own_numbers(name: str, text: str, others: list[str]) -> list[int]:
+    """Returns the numbers in the code about a type of faults: from a mention of it to that of another type."""
+    mention = re.compile(rf"\b({'|'.join([name, *others])})\b|Refusal::(?:refused|detailed|io)\(\s*(\d+)")
+    about, numbers = "", set()
+    for match in mention.finditer(text):
+        about = match[1] or about
+        if match[2] and about == name:
+            numbers.add(int(match[2]))
+    return sorted(numbers)
+
+
+def spans(numbers: list[int]) -> str:
+    """Returns numbers as text: `1 to 5, 8`."""
+    rows: list[list[int]] = []
+    for number in numbers:
+        if rows and number == rows[-1][-1] + 1:
+            rows[-1].append(number)
+        else:
+            rows.append([number])
+    texts = (f"{row[0]} to {row[-1]}" if len(row) > 2 else ", ".join(map(str, row)) for row in rows)
+    return ", ".join(texts)
+
+
+def fault_lines(types: dict[str, FaultType], name: str, depth: int, listed: set[str]) -> Iterator[str]:
+    """Yields the lines of a type. What it contains is listed once."""
+    fault = types[name]
+    yield f"{'  ' * depth}{name}".ljust(28) + f"{fault.crate}".ljust(18) + spans(fault.numbers)
+    if name not in listed:
+        listed.add(name)
+        for part in fault.parts:
+            yield from fault_lines(types, part, depth + 1, listed)
+
+
+def faults_part() -> str:
+    """Returns the tree of faults: each type with its crate and its own numbers, and under it the types that it contains."""
+    types = fault_types()
+    inner = {part for fault in types.values() for part in fault.parts}
+
+    def has_numbers(name: str) -> bool:
+        return bool(types[name].numbers) or any(has_numbers(part) for part in types[name].parts)
+
+    roots = (name for name in types if name not in inner and has_numbers(name))
+    listed: set[str] = set()
+    lines = [line.rstrip() for root in roots for line in fault_lines(types, root, 0, listed)]
+    return "```text\n" + "\n".join(lines) + "\n```\n"
 
 
 def without_details(sentence: str) -> str:
@@ -130,6 +206,11 @@ def both_sides(left: Field, right: Field) -> tuple[str, str, str]:
     return f"{left.name}, {right.name}", f"{left.places()}, {right.places()}", meaning
 
 
+def further_types() -> list[str]:
+    """Returns the record types after the first two, such as `4`. The page has its own line for type 2."""
+    return re.findall(r"^pub struct Type(?![12];)(\w+);", source("tl_records/src/layout.rt"), re.MULTILINE)
+
+
 def layout_part(record_type: str) -> str:
     """Returns the fields of another type with their places."""
     return wrapped(", ".join(f"{field.name} {field.places()}" for field in fields_of(record_type)))
@@ -186,11 +267,10 @@ def helpers_part() -> str:
 # The parts: the page of each, and what it should be.
 PARTS = {
     "crates": ("docs/ARCHITECTURE.md", crates_part),
+    "faults": ("docs/ARCHITECTURE.md", faults_part),
     "helpers": ("docs/helpers.md", helpers_part),
     "type 1": ("docs/records.md", first_layout_part),
-    "type 4": ("docs/records.md", lambda: layout_part("Type4")),
-    "type 5": ("docs/records.md", lambda: layout_part("Type5")),
-    "type 6": ("docs/records.md", lambda: layout_part("Type6")),
+    **{f"type {name}": ("docs/records.md", partial(layout_part, f"Type{name}")) for name in further_types()},
 }
 
 

@@ -42,7 +42,7 @@ SECONDS = 300
 # What a page's commands may use of a clone.
 CLONED = ("README.md", "deploy", "docs", "examples", "python", "quickstart.sh", "tools")
 # Blocks without a test.
-SHOWN = ("asm", "none", "rust", "sh")
+SHOWN = ("asm", "none", "rust", "sh", "text")
 PORT = "127.0.0.1:8080"
 # Ends a program with its r0 as the score.
 SCORED = "\nmov r1, r0\ncall 8\nmov r0, 1\nexit\n"
