@@ -1,66 +1,89 @@
 -- The columns that a filter can name, and their values (TIGER/Line 2006, record type 1).
-use Rattle.std.specs.Prelude.{ℕ, ℤ, pos, Bool, true, false, List, reverse, Option, Some, None, option_map, if◌then◌else◌}
+use Rattle.std.specs.Prelude.{ℕ, ℤ, pos, Bool, true, false, List, codes, reverse, Option, Some, None, option_map, if◌then◌else◌}
 use Rattle.std.specs.Ordering.{int_eq}
 use Rattle.tl_fields.specs.Coordinate.{coordinate_of}
 use Rattle.tl_fields.specs.Number.{is_blank, number_of, trim, without_blanks_before}
 use Rattle.tl_records.specs.Layout.{field_at, places}
 use Rattle.tl_records.specs.declared.layout.Places.{Places}
 use Rattle.tl_records.specs.declared.layout.TheConstants.Type1 as type1
+use Rattle.cql2.specs.declared.column.Column.{Column as AColumn}
+use Rattle.cql2.specs.declared.column.Column.TheVariants.{Numeric, Text}
 use Rattle.cql2.specs.declared.column.CoordinateColumn.{CoordinateColumn}
-use Rattle.cql2.specs.declared.column.CoordinateColumn.TheVariants.{Frlong, Frlat, Tolong, Tolat}
+use Rattle.cql2.specs.declared.column.CoordinateColumn.TheVariants as coordinate
 use Rattle.cql2.specs.declared.column.NumberColumn.{NumberColumn}
-use Rattle.cql2.specs.declared.column.NumberColumn.TheVariants.{Tlid, Fraddl, Toaddl, Fraddr, Toaddr, Zipl, Zipr, Statel, Stater, Countyl, Countyr, Placel, Placer, Tractl, Tractr, Blockl, Blockr}
+use Rattle.cql2.specs.declared.column.NumberColumn.TheVariants as number
 use Rattle.cql2.specs.declared.column.NumericColumn.{NumericColumn}
 use Rattle.cql2.specs.declared.column.NumericColumn.TheVariants.{Number, Coordinate}
 use Rattle.cql2.specs.declared.column.TextColumn.{TextColumn}
-use Rattle.cql2.specs.declared.column.TextColumn.TheVariants.{Rt, Version, Side1, Source, Fedirp, Fename, Fetype, Fedirs, Cfcc, FraddlText, ToaddlText, FraddrText, ToaddrText}
-use Rattle.cql2.specs.declared.column.TextColumn.TheVariants.{Friaddl, Toiaddl, Friaddr, Toiaddr, Cousubl, Cousubr}
+use Rattle.cql2.specs.declared.column.TextColumn.TheVariants as text
+
+-- the names of columns, and the positions of their fields
+
+abbrev pub number_row : NumberColumn → List ℕ × Places
+number_row number.Tlid = (codes "TLID", type1.TLID)
+number_row number.Fraddl = (codes "FRADDL", type1.FRADDL)
+number_row number.Toaddl = (codes "TOADDL", type1.TOADDL)
+number_row number.Fraddr = (codes "FRADDR", type1.FRADDR)
+number_row number.Toaddr = (codes "TOADDR", type1.TOADDR)
+number_row number.Zipl = (codes "ZIPL", type1.ZIPL)
+number_row number.Zipr = (codes "ZIPR", type1.ZIPR)
+number_row number.Statel = (codes "STATEL", type1.STATEL)
+number_row number.Stater = (codes "STATER", type1.STATER)
+number_row number.Countyl = (codes "COUNTYL", type1.COUNTYL)
+number_row number.Countyr = (codes "COUNTYR", type1.COUNTYR)
+number_row number.Placel = (codes "PLACEL", type1.PLACEL)
+number_row number.Placer = (codes "PLACER", type1.PLACER)
+number_row number.Tractl = (codes "TRACTL", type1.TRACTL)
+number_row number.Tractr = (codes "TRACTR", type1.TRACTR)
+number_row number.Blockl = (codes "BLOCKL", type1.BLOCKL)
+number_row number.Blockr = (codes "BLOCKR", type1.BLOCKR)
+
+abbrev pub coordinate_row : CoordinateColumn → List ℕ × Places
+coordinate_row coordinate.Frlong = (codes "FRLONG", type1.FRLONG)
+coordinate_row coordinate.Frlat = (codes "FRLAT", type1.FRLAT)
+coordinate_row coordinate.Tolong = (codes "TOLONG", type1.TOLONG)
+coordinate_row coordinate.Tolat = (codes "TOLAT", type1.TOLAT)
+
+abbrev pub text_row : TextColumn → List ℕ × Places
+text_row text.Rt = (codes "RT", type1.RT)
+text_row text.Version = (codes "VERSION", type1.VERSION)
+text_row text.Side1 = (codes "SIDE1", type1.SIDE1)
+text_row text.Source = (codes "SOURCE", type1.SOURCE)
+text_row text.Fedirp = (codes "FEDIRP", type1.FEDIRP)
+text_row text.Fename = (codes "FENAME", type1.FENAME)
+text_row text.Fetype = (codes "FETYPE", type1.FETYPE)
+text_row text.Fedirs = (codes "FEDIRS", type1.FEDIRS)
+text_row text.Cfcc = (codes "CFCC", type1.CFCC)
+text_row text.FraddlText = (codes "FRADDL_TEXT", type1.FRADDL)
+text_row text.ToaddlText = (codes "TOADDL_TEXT", type1.TOADDL)
+text_row text.FraddrText = (codes "FRADDR_TEXT", type1.FRADDR)
+text_row text.ToaddrText = (codes "TOADDR_TEXT", type1.TOADDR)
+text_row text.Friaddl = (codes "FRIADDL", places 103 103)
+text_row text.Toiaddl = (codes "TOIADDL", places 104 104)
+text_row text.Friaddr = (codes "FRIADDR", places 105 105)
+text_row text.Toiaddr = (codes "TOIADDR", places 106 106)
+text_row text.Cousubl = (codes "COUSUBL", type1.COUSUBL)
+text_row text.Cousubr = (codes "COUSUBR", type1.COUSUBR)
+
+abbrev pub column_row : AColumn → List ℕ × Places
+column_row (Numeric (Number column)) = number_row column
+column_row (Numeric (Coordinate column)) = coordinate_row column
+column_row (Text column) = text_row column
+
+abbrev pub column_name : AColumn → List ℕ
+column_name column = (column_row column).0
+
+abbrev pub places_of : AColumn → Places
+places_of column = (column_row column).1
 
 abbrev pub number_places : NumberColumn → Places
-number_places Tlid = type1.TLID
-number_places Fraddl = type1.FRADDL
-number_places Toaddl = type1.TOADDL
-number_places Fraddr = type1.FRADDR
-number_places Toaddr = type1.TOADDR
-number_places Zipl = type1.ZIPL
-number_places Zipr = type1.ZIPR
-number_places Statel = type1.STATEL
-number_places Stater = type1.STATER
-number_places Countyl = type1.COUNTYL
-number_places Countyr = type1.COUNTYR
-number_places Placel = type1.PLACEL
-number_places Placer = type1.PLACER
-number_places Tractl = type1.TRACTL
-number_places Tractr = type1.TRACTR
-number_places Blockl = type1.BLOCKL
-number_places Blockr = type1.BLOCKR
+number_places column = (number_row column).1
 
 abbrev pub coordinate_places : CoordinateColumn → Places
-coordinate_places Frlong = type1.FRLONG
-coordinate_places Frlat = type1.FRLAT
-coordinate_places Tolong = type1.TOLONG
-coordinate_places Tolat = type1.TOLAT
+coordinate_places column = (coordinate_row column).1
 
 abbrev pub text_places : TextColumn → Places
-text_places Rt = type1.RT
-text_places Version = type1.VERSION
-text_places Side1 = type1.SIDE1
-text_places Source = type1.SOURCE
-text_places Fedirp = type1.FEDIRP
-text_places Fename = type1.FENAME
-text_places Fetype = type1.FETYPE
-text_places Fedirs = type1.FEDIRS
-text_places Cfcc = type1.CFCC
-text_places FraddlText = type1.FRADDL
-text_places ToaddlText = type1.TOADDL
-text_places FraddrText = type1.FRADDR
-text_places ToaddrText = type1.TOADDR
-text_places Friaddl = places 103 103
-text_places Toiaddl = places 104 104
-text_places Friaddr = places 105 105
-text_places Toiaddr = places 106 106
-text_places Cousubl = type1.COUSUBL
-text_places Cousubr = type1.COUSUBR
+text_places column = (text_row column).1
 
 -- a coordinate of 0 counts as missing: the files have no place on the equator or the prime meridian
 abbrev pub unless_zero : Option ℤ → Option ℤ
@@ -78,10 +101,10 @@ trim_end bytes = reverse (without_blanks_before (reverse bytes))
 
 -- the fields of house numbers are right-justified, all others left-justified
 abbrev pub is_right_justified : TextColumn → Bool
-is_right_justified FraddlText = true
-is_right_justified ToaddlText = true
-is_right_justified FraddrText = true
-is_right_justified ToaddrText = true
+is_right_justified text.FraddlText = true
+is_right_justified text.ToaddlText = true
+is_right_justified text.FraddrText = true
+is_right_justified text.ToaddrText = true
 is_right_justified column = false
 
 -- the text in a column's field: without the blanks that fill it up

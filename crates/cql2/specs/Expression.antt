@@ -56,17 +56,17 @@ bound (Column column) = column_bound column
 bound (Negated' p inner) = bound inner
 bound (Combined' operator p first q second) = combined_bound operator (bound first) (bound second)
 
--- how many expressions must be kept while an operand of this depth is computed after another one; a literal isn't computed
-abbrev pub kept_for : {A : Type 0} → Expression A → ℕ → ℕ
-kept_for (Literal literal) depth = 0
-kept_for second depth = suc depth
+-- how many expressions must be saved while an operand of this depth is computed after another one; a literal isn't computed
+abbrev pub saved_for : {A : Type 0} → Expression A → ℕ → ℕ
+saved_for (Literal literal) depth = 0
+saved_for second depth = suc depth
 
--- how many expressions must be kept while the last one is computed
+-- how many expressions must be saved while the last one is computed
 abbrev pub depth : {A : Type 0} → Expression A → ℕ
 depth (Literal literal) = 0
 depth (Column column) = 0
 depth (Negated' p inner) = depth inner
-depth (Combined' operator p first q second) = max (depth first) (kept_for second (depth second))
+depth (Combined' operator p first q second) = max (depth first) (saved_for second (depth second))
 
 -- no part of an expression can leave 63 bits
 abbrev pub is_bounded : {A : Type 0} → Expression A → Bool
@@ -76,7 +76,7 @@ is_bounded (Negated' p inner) = is_bounded inner
 is_bounded (Combined' operator p first q second) =
     is_bounded first && is_bounded second && nat_lt (combined_bound operator (bound first) (bound second)) (2 ^ 62)
 
--- The greatest depth of an expression. In a comparison one more is kept: the first of its two expressions.
+-- The greatest depth of an expression. In a comparison one more is saved: the first of its two expressions.
 abbrev pub MAX_DEPTH : ℕ
 MAX_DEPTH = 2
 

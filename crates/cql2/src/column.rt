@@ -1,6 +1,6 @@
 //! The columns of a segment's record that a filter can name (TIGER/Line 2006, record type 1).
 ghost use Rattle.std.specs.Prelude.{◌≡◌};
-ghost use Rattle.cql2.specs.Column.{coordinate_places, is_right_justified, number_places, text_places};
+ghost use Rattle.cql2.specs.Column.{column_name, is_right_justified, number_places, places_of, text_places};
 
 use tl_records::{Places, Type1};
 
@@ -74,44 +74,110 @@ pub enum Column {
     Text(TextColumn),
 }
 
+// One table, so that a column is written once. What a field means is said where `Type1` doesn't name it.
+/// Passes the given tokens and each column with its name and the positions of its fields to a macro.
+macro_rules! columns {
+    ($write:ident!($($given:tt)*)) => {
+        $write! {
+            ($($given)*)
+            Text Rt "RT" Type1::RT;
+            Text Version "VERSION" Type1::VERSION;
+            Number Tlid "TLID" Type1::TLID;
+            Text Side1 "SIDE1" Type1::SIDE1;
+            Text Source "SOURCE" Type1::SOURCE;
+            Text Fedirp "FEDIRP" Type1::FEDIRP;
+            Text Fename "FENAME" Type1::FENAME;
+            Text Fetype "FETYPE" Type1::FETYPE;
+            Text Fedirs "FEDIRS" Type1::FEDIRS;
+            Text Cfcc "CFCC" Type1::CFCC;
+            Number Fraddl "FRADDL" Type1::FRADDL;
+            Number Toaddl "TOADDL" Type1::TOADDL;
+            Number Fraddr "FRADDR" Type1::FRADDR;
+            Number Toaddr "TOADDR" Type1::TOADDR;
+            // Whether FRADDL is imputed: `1`, `0` or blank.
+            Text Friaddl "FRIADDL" Places(103, 103);
+            // Whether TOADDL is imputed: `1`, `0` or blank.
+            Text Toiaddl "TOIADDL" Places(104, 104);
+            // Whether FRADDR is imputed: `1`, `0` or blank.
+            Text Friaddr "FRIADDR" Places(105, 105);
+            // Whether TOADDR is imputed: `1`, `0` or blank.
+            Text Toiaddr "TOIADDR" Places(106, 106);
+            Number Zipl "ZIPL" Type1::ZIPL;
+            Number Zipr "ZIPR" Type1::ZIPR;
+            Number Statel "STATEL" Type1::STATEL;
+            Number Stater "STATER" Type1::STATER;
+            Number Countyl "COUNTYL" Type1::COUNTYL;
+            Number Countyr "COUNTYR" Type1::COUNTYR;
+            Text Cousubl "COUSUBL" Type1::COUSUBL;
+            Text Cousubr "COUSUBR" Type1::COUSUBR;
+            Number Placel "PLACEL" Type1::PLACEL;
+            Number Placer "PLACER" Type1::PLACER;
+            Number Tractl "TRACTL" Type1::TRACTL;
+            Number Tractr "TRACTR" Type1::TRACTR;
+            Number Blockl "BLOCKL" Type1::BLOCKL;
+            Number Blockr "BLOCKR" Type1::BLOCKR;
+            Coordinate Frlong "FRLONG" Type1::FRLONG;
+            Coordinate Frlat "FRLAT" Type1::FRLAT;
+            Coordinate Tolong "TOLONG" Type1::TOLONG;
+            Coordinate Tolat "TOLAT" Type1::TOLAT;
+            Text FraddlText "FRADDL_TEXT" Type1::FRADDL;
+            Text ToaddlText "TOADDL_TEXT" Type1::TOADDL;
+            Text FraddrText "FRADDR_TEXT" Type1::FRADDR;
+            Text ToaddrText "TOADDR_TEXT" Type1::TOADDR;
+        }
+    };
+}
+
+/// Expands to a column of a kind.
+macro_rules! column {
+    (Number $column:ident) => { Column::Numeric(NumericColumn::Number(NumberColumn::$column)) };
+    (Coordinate $column:ident) => { Column::Numeric(NumericColumn::Coordinate(CoordinateColumn::$column)) };
+    (Text $column:ident) => { Column::Text(TextColumn::$column) };
+}
+
+/// Expands to the list of the columns.
+macro_rules! list {
+    (() $($kind:ident $column:ident $name:literal $places:expr;)*) => { [$(column!($kind $column)),*] };
+}
+
+/// Expands to the match from a column to its name.
+macro_rules! name {
+    (($of:expr) $($kind:ident $column:ident $name:literal $places:expr;)*) => { match $of { $(column!($kind $column) => $name,)* } };
+}
+
+/// Expands to the match from a column to the positions of its fields.
+macro_rules! places {
+    (($of:expr) $($kind:ident $column:ident $name:literal $places:expr;)*) => { match $of { $(column!($kind $column) => $places,)* } };
+}
+
+/// The number of columns.
+pub const MAX_COLUMNS: usize = columns!(list!()).len();
+
+/// All columns, each once: first the usual ones, one for each field, in the order of the record, and then those that repeat a field.
+pub const COLUMNS: [Column; MAX_COLUMNS] = columns!(list!());
+
+/// Returns the column's name in the record layout.
+pub fn column_name(column: Column) -> &'static str
+    ensures { result.now ≡ column_name column }
+{
+    columns!(name!(column))
+}
+
+impl Column {
+    /// Returns the positions of the column's fields.
+    pub fn places(self) -> Places
+        ensures { result ≡ places_of self }
+    {
+        columns!(places!(self))
+    }
+}
+
 impl NumberColumn {
     /// Returns the positions of the column's fields.
     pub fn places(self) -> Places
         ensures { result ≡ number_places self }
     {
-        match self {
-            NumberColumn::Tlid => Type1::TLID,
-            NumberColumn::Fraddl => Type1::FRADDL,
-            NumberColumn::Toaddl => Type1::TOADDL,
-            NumberColumn::Fraddr => Type1::FRADDR,
-            NumberColumn::Toaddr => Type1::TOADDR,
-            NumberColumn::Zipl => Type1::ZIPL,
-            NumberColumn::Zipr => Type1::ZIPR,
-            NumberColumn::Statel => Type1::STATEL,
-            NumberColumn::Stater => Type1::STATER,
-            NumberColumn::Countyl => Type1::COUNTYL,
-            NumberColumn::Countyr => Type1::COUNTYR,
-            NumberColumn::Placel => Type1::PLACEL,
-            NumberColumn::Placer => Type1::PLACER,
-            NumberColumn::Tractl => Type1::TRACTL,
-            NumberColumn::Tractr => Type1::TRACTR,
-            NumberColumn::Blockl => Type1::BLOCKL,
-            NumberColumn::Blockr => Type1::BLOCKR,
-        }
-    }
-}
-
-impl CoordinateColumn {
-    /// Returns the positions of the column's fields.
-    pub fn places(self) -> Places
-        ensures { result ≡ coordinate_places self }
-    {
-        match self {
-            CoordinateColumn::Frlong => Type1::FRLONG,
-            CoordinateColumn::Frlat => Type1::FRLAT,
-            CoordinateColumn::Tolong => Type1::TOLONG,
-            CoordinateColumn::Tolat => Type1::TOLAT,
-        }
+        Column::Numeric(NumericColumn::Number(self)).places()
     }
 }
 
@@ -120,28 +186,7 @@ impl TextColumn {
     pub fn places(self) -> Places
         ensures { result ≡ text_places self }
     {
-        match self {
-            TextColumn::Rt => Type1::RT,
-            TextColumn::Version => Type1::VERSION,
-            TextColumn::Side1 => Type1::SIDE1,
-            TextColumn::Source => Type1::SOURCE,
-            TextColumn::Fedirp => Type1::FEDIRP,
-            TextColumn::Fename => Type1::FENAME,
-            TextColumn::Fetype => Type1::FETYPE,
-            TextColumn::Fedirs => Type1::FEDIRS,
-            TextColumn::Cfcc => Type1::CFCC,
-            TextColumn::FraddlText => Type1::FRADDL,
-            TextColumn::ToaddlText => Type1::TOADDL,
-            TextColumn::FraddrText => Type1::FRADDR,
-            TextColumn::ToaddrText => Type1::TOADDR,
-            // The flags of imputed addresses, which `Type1` doesn't name.
-            TextColumn::Friaddl => Places(103, 103),
-            TextColumn::Toiaddl => Places(104, 104),
-            TextColumn::Friaddr => Places(105, 105),
-            TextColumn::Toiaddr => Places(106, 106),
-            TextColumn::Cousubl => Type1::COUSUBL,
-            TextColumn::Cousubr => Type1::COUSUBR,
-        }
+        Column::Text(self).places()
     }
 
     /// Returns whether the column's fields are right-justified, so that blanks before a text aren't part of it.

@@ -10,7 +10,10 @@ mod number;
 mod pattern;
 mod text;
 
-pub use column::{Column, CoordinateColumn, NumberColumn, NumericColumn, TextColumn};
+pub use column::{
+    COLUMNS, Column, CoordinateColumn, MAX_COLUMNS, NumberColumn, NumericColumn, TextColumn,
+    column_name,
+};
 pub use expression::{Expression, Number, Operator};
 pub use filter::{Comparison, Filter};
 pub use function::Function;

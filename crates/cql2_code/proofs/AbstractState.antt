@@ -47,34 +47,34 @@ abbrev pub any_number : Kind
 any_number = up_to (2 ^ 64 - 1)
 
 -- the contents of each of registers 7 to 9, by whether the program keeps numbers in them
-abbrev pub kept : Bool → Kind
-kept true = any_number
-kept false = Nothing
+abbrev pub saved : Bool → Kind
+saved true = any_number
+saved false = Nothing
 
-abbrev pub all_kept : Bool → List Kind
-all_kept keeps = kept keeps ∷ kept keeps ∷ kept keeps ∷ []
+abbrev pub all_saved : Bool → List Kind
+all_saved keeps = saved keeps ∷ saved keeps ∷ saved keeps ∷ []
 
 abbrev pub registers_of : List Kind → Held → List Kind
-registers_of kept held =
-    held.v0 ∷ held.v1 ∷ held.v2 ∷ held.v3 ∷ Nothing ∷ Nothing ∷ to_record ∷ (kept ++ frame_at FRAME_LENGTH ∷ [])
+registers_of saved held =
+    held.v0 ∷ held.v1 ∷ held.v2 ∷ held.v3 ∷ Nothing ∷ Nothing ∷ to_record ∷ (saved ++ frame_at FRAME_LENGTH ∷ [])
 
 -- nothing else is known of registers 0 to 3 and the frame
 abbrev pub nothing : Held
 nothing = record { v0 = Nothing; v1 = Nothing; v2 = Nothing; v3 = Nothing; frame = unwritten }
 
 -- the state with these contents of registers 7 to 9
-abbrev pub knowing_kept : List Kind → Held → LiftedState
-knowing_kept kept held = Reached (record { registers = registers_of kept held; frame = held.frame })
+abbrev pub knowing_saved : List Kind → Held → LiftedState
+knowing_saved saved held = Reached (record { registers = registers_of saved held; frame = held.frame })
 
 -- at the start of a program that keeps numbers, before registers 7, 8 and 9 are set
 abbrev pub setting_7 : LiftedState
-setting_7 = knowing_kept (Nothing ∷ Nothing ∷ Nothing ∷ []) nothing
+setting_7 = knowing_saved (Nothing ∷ Nothing ∷ Nothing ∷ []) nothing
 
 abbrev pub setting_8 : LiftedState
-setting_8 = knowing_kept (any_number ∷ Nothing ∷ Nothing ∷ []) nothing
+setting_8 = knowing_saved (any_number ∷ Nothing ∷ Nothing ∷ []) nothing
 
 abbrev pub setting_9 : LiftedState
-setting_9 = knowing_kept (any_number ∷ any_number ∷ Nothing ∷ []) nothing
+setting_9 = knowing_saved (any_number ∷ any_number ∷ Nothing ∷ []) nothing
 
 -- the frame after a number of a name's words were stored
 abbrev pub stored : ℕ → map.Contents
@@ -98,7 +98,7 @@ six_numbers = record { s0 = any_number; s1 = any_number; s2 = any_number; s3 = a
 module _ (keeps : Bool) where
   abbrev pub six_registers : Six → List Kind
   six_registers six =
-      six.s0 ∷ six.s1 ∷ six.s2 ∷ six.s3 ∷ six.s4 ∷ six.s5 ∷ to_record ∷ (all_kept keeps ++ frame_at FRAME_LENGTH ∷ [])
+      six.s0 ∷ six.s1 ∷ six.s2 ∷ six.s3 ∷ six.s4 ∷ six.s5 ∷ to_record ∷ (all_saved keeps ++ frame_at FRAME_LENGTH ∷ [])
 
   abbrev pub drawing : Six → LiftedState
   drawing six = Reached (record { registers = six_registers six; frame = unwritten })
@@ -117,7 +117,7 @@ module _ (keeps : Bool) where
   drawn = drawing six_numbers
 
   abbrev pub knowing : Held → LiftedState
-  knowing held = knowing_kept (all_kept keeps) held
+  knowing held = knowing_saved (all_saved keeps) held
 
   -- between tests, nothing else is known
   abbrev pub resting : LiftedState
@@ -243,26 +243,26 @@ forgets held = record {
 }
 
 -- what registers 7 to 9 hold
-pub record KeptKinds : Type 0 where
+pub record SavedKinds : Type 0 where
   pub v7 : Kind
   pub v8 : Kind
   pub v9 : Kind
 
-abbrev pub kept_kinds : Kind → Kind → Kind → KeptKinds
-kept_kinds v7 v8 v9 = record { v7 = v7; v8 = v8; v9 = v9 }
+abbrev pub saved_kinds : Kind → Kind → Kind → SavedKinds
+saved_kinds v7 v8 v9 = record { v7 = v7; v8 = v8; v9 = v9 }
 
-abbrev pub list_of : KeptKinds → List Kind
+abbrev pub list_of : SavedKinds → List Kind
 list_of kinds = kinds.v7 ∷ kinds.v8 ∷ kinds.v9 ∷ []
 
 -- registers 7 to 9 of one state know more than those of another
-pub record KeepsMore (some others : KeptKinds) : Type 0 where
+pub record KeepsMore (some others : SavedKinds) : Type 0 where
   pub v7 : kind.IsWithin some.v7 others.v7
   pub v8 : kind.IsWithin some.v8 others.v8
   pub v9 : kind.IsWithin some.v9 others.v9
 
-pub keeps_more : (some others : KeptKinds) (held other : Held) → KeepsMore some others → KnowsMore held other
-    → IsWithin (knowing_kept (list_of some) held) (knowing_kept (list_of others) other)
-keeps_more some others held other kept more = record { registers = each; frame = more.frame }
+pub keeps_more : (some others : SavedKinds) (held other : Held) → KeepsMore some others → KnowsMore held other
+    → IsWithin (knowing_saved (list_of some) held) (knowing_saved (list_of others) other)
+keeps_more some others held other saved more = record { registers = each; frame = more.frame }
   where
     same : IsWithin (Reached entry) (Reached entry)
     same = reflexive (Reached entry)
@@ -276,9 +276,9 @@ keeps_more some others held other kept more = record { registers = each; frame =
     each (suc (suc (suc (suc zero)))) = tt
     each (suc (suc (suc (suc (suc zero))))) = tt
     each (suc (suc (suc (suc (suc (suc zero)))))) = same.registers 1
-    each (suc (suc (suc (suc (suc (suc (suc zero))))))) = kept.v7
-    each (suc (suc (suc (suc (suc (suc (suc (suc zero)))))))) = kept.v8
-    each (suc (suc (suc (suc (suc (suc (suc (suc (suc zero))))))))) = kept.v9
+    each (suc (suc (suc (suc (suc (suc (suc zero))))))) = saved.v7
+    each (suc (suc (suc (suc (suc (suc (suc (suc zero)))))))) = saved.v8
+    each (suc (suc (suc (suc (suc (suc (suc (suc (suc zero))))))))) = saved.v9
     each (suc (suc (suc (suc (suc (suc (suc (suc (suc (suc register)))))))))) =
         same.registers (suc (suc (suc (suc (suc (suc (suc (suc (suc (suc register))))))))))
 
@@ -286,11 +286,11 @@ module _ (keeps : Bool) where
   pub knows_more : (held other : Held) → KnowsMore held other → IsWithin (knowing keeps held) (knowing keeps other)
   knows_more held other = keeps_more all all held other (record { v7 = same; v8 = same; v9 = same })
     where
-      all : KeptKinds
-      all = kept_kinds (kept keeps) (kept keeps) (kept keeps)
+      all : SavedKinds
+      all = saved_kinds (saved keeps) (saved keeps) (saved keeps)
 
-      same : kind.IsWithin (kept keeps) (kept keeps)
-      same = kinds.reflexive (kept keeps)
+      same : kind.IsWithin (saved keeps) (saved keeps)
+      same = kinds.reflexive (saved keeps)
 
   pub rests_after : (held : Held) → IsWithin (knowing keeps held) (resting keeps)
   rests_after held = knows_more held nothing (forgets held)

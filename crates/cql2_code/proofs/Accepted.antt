@@ -165,18 +165,18 @@ module _ (keeps : Bool) where
   pub question_good : (code : List Insn) (question : Question) (falls : Bool) (skip place : ℕ) → IsSound question
       → Keeps keeps (question_code question falls skip)
       → Settled keeps code place (question_code question falls skip) skip → AreGoodAt keeps code place (question_code question falls skip)
-  question_good code (Decided found) falls skip place sound kept placed = decided_good code found falls skip place placed
-  question_good code (Holds test) falls skip place sound kept placed = test_good code test falls skip place sound placed
-  question_good code (Opposite question) falls skip place sound kept placed = question_good code question (not falls) skip place sound kept placed
-  question_good code (Coded block) falls skip place sound kept placed = sound.good keeps code falls skip place kept placed
-  question_good code (Joined neutral first second) falls skip place sound kept placed =
+  question_good code (Decided found) falls skip place sound saved placed = decided_good code found falls skip place placed
+  question_good code (Holds test) falls skip place sound saved placed = test_good code test falls skip place sound placed
+  question_good code (Opposite question) falls skip place sound saved placed = question_good code question (not falls) skip place sound saved placed
+  question_good code (Coded block) falls skip place sound saved placed = sound.good keeps code falls skip place saved placed
+  question_good code (Joined neutral first second) falls skip place sound saved placed =
       let pair : Pair = record { neutral = neutral; first = first; second = second; falls = falls; skip = skip } in
       let middle = place + word_count (first_code pair) in
       let after = second_placed (Rests keeps code) code place (first_code pair) (second_code pair) skip placed in
       let end = rests_at code middle (second_code pair) after.has (question_needs second falls skip sound.1) after.end in
       let before = first_placed (Rests keeps code) code place pair placed end in
-      let front = keeps_front keeps (first_code pair) (second_code pair) kept in
-      let back = keeps_back keeps (first_code pair) (second_code pair) kept in
+      let front = keeps_front keeps (first_code pair) (second_code pair) saved in
+      let back = keeps_back keeps (first_code pair) (second_code pair) saved in
       good-append keeps code place (first_code pair) (second_code pair)
       (question_good code first neutral (skip_first pair) place sound.0 front before)
       (question_good code second falls skip middle sound.1 back after)

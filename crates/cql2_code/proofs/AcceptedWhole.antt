@@ -10,13 +10,13 @@ use Rattle.bpf_verify.proofs.StateLaws.{reflexive}
 use Rattle.bpf_verify.specs.Annotation.{HasGoodAnnotation}
 use Rattle.bpf_verify.specs.LiftedState.{Reached, entry}
 use Rattle.cql2.specs.declared.column.NumericColumn.{NumericColumn}
-use Rattle.cql2_code.specs.Layout.{answer_code, chosen_code, copy, from_argument_1, into_record, into_result, kept_code, move, program}
+use Rattle.cql2_code.specs.Layout.{answer_code, chosen_code, copy, from_argument_1, into_record, into_result, saved_code, move, program}
 use Rattle.cql2_code.specs.Question.{Question}
 use Rattle.cql2_code.proofs.AbstractState.{annotation_of, resting, state_before}
 use Rattle.cql2_code.proofs.Accepted.{question_good, question_needs, rests_at}
 use Rattle.cql2_code.proofs.Blocks.{IsSound, Settled}
 use Rattle.cql2_code.proofs.Good.{AreGoodAt, IsGoodAt, Needs, all_good, good-append, good_there, needs_at}
-use Rattle.cql2_code.proofs.Kept.{first_passes}
+use Rattle.cql2_code.proofs.Saved.{first_passes}
 use Rattle.cql2_code.proofs.Passes.{answer_passes, chosen_passes, chosen_rests}
 use Rattle.cql2_code.proofs.Program.{chosen_begins, code_of, front_of, has_chosen, has_first, has_middle, has_other, keeps_middle, keeps_of}
 use Rattle.cql2_code.proofs.Program.{middle_of, rest_of, start_of}
@@ -78,8 +78,8 @@ module _ (score : Option NumericColumn) (question : Question) where
     program_good : AreGoodAt (keeps_of score question) (program score question) 0 (program score question)
     program_good =
         let keeps = keeps_of score question in
-        let count : word_count (front_of score question) ≡ 1 + word_count (kept_code keeps) =
-        word_count-cons (copy into_record from_argument_1) (kept_code keeps) in
+        let count : word_count (front_of score question) ≡ 1 + word_count (saved_code keeps) =
+        word_count-cons (copy into_record from_argument_1) (saved_code keeps) in
         let e : start_of score question ≡ 0 + word_count (front_of score question) = omega arith in
         good-append keeps (code_of score question) 0 (front_of score question) (rest_of score question)
         (all_good keeps (code_of score question) 0 (front_of score question) (resting keeps) (has_first score question)

@@ -169,7 +169,7 @@ module _ (on : Setting) (from : Scratch) (number : ℕ) (small : number < 2 ^ 8)
 pub among_sound : (at byte : ℕ) (bytes : List ℕ) → at < 228 → AreSmall (byte ∷ bytes) → IsSoundBlock (among at byte bytes)
 among_sound at byte bytes within small = record {
   needs = λ keeps falls skip. refl;
-  good = λ keeps code falls skip place kept placed.
+  good = λ keeps code falls skip place saved placed.
       let rest = comparisons byte bytes falls skip in
       let after = second_placed (Rests keeps code) code place (load Byte at ∷ []) rest skip placed in
       let needs = needs_at keeps code (place + 1) rest (resting keeps) after.has after.end.needs ∙ comparisons_need keeps byte bytes falls skip in (

@@ -6,7 +6,7 @@ use Rattle.std.proofs.Math.Bool.{or-true}
 use Rattle.bpf_insn.specs.Code.{word_count}
 use Rattle.bpf_insn.specs.declared.instruction.Insn.{Insn}
 use Rattle.tl_segments.specs.Segment.{IsSegment}
-use Rattle.cql2_code.specs.Layout.{writes_kept}
+use Rattle.cql2_code.specs.Layout.{writes_saved}
 use Rattle.cql2_code.specs.Question.{Block, IsSoundTest, Question, Decided, Holds, Opposite, Joined, Coded, if_asked}
 use Rattle.cql2_code.proofs.AbstractState.{resting}
 use Rattle.cql2_code.proofs.Codes.{Placed}
@@ -21,15 +21,15 @@ Settled keeps code place insns skip = Placed (Rests keeps code) code place insns
 
 -- a program keeps numbers in registers 7 to 9 if these instructions write one of them
 abbrev pub Keeps : Bool → List Insn → Type 0
-Keeps keeps insns = list_any writes_kept insns ≡ true → keeps ≡ true
+Keeps keeps insns = list_any writes_saved insns ≡ true → keeps ≡ true
 
 pub keeps_front : (keeps : Bool) (a b : List Insn) → Keeps keeps (a ++ b) → Keeps keeps a
-keeps_front keeps a b kept writes =
-    kept (list_any-append writes_kept a b ∙ ap (λ (found : Bool). found || list_any writes_kept b) writes)
+keeps_front keeps a b saved writes =
+    saved (list_any-append writes_saved a b ∙ ap (λ (found : Bool). found || list_any writes_saved b) writes)
 
 pub keeps_back : (keeps : Bool) (a b : List Insn) → Keeps keeps (a ++ b) → Keeps keeps b
-keeps_back keeps a b kept writes =
-    kept (list_any-append writes_kept a b ∙ ap (λ (found : Bool). list_any writes_kept a || found) writes ∙ or-true (list_any writes_kept a))
+keeps_back keeps a b saved writes =
+    saved (list_any-append writes_saved a b ∙ ap (λ (found : Bool). list_any writes_saved a || found) writes ∙ or-true (list_any writes_saved a))
 
 -- a block's code needs only the record's pointer, each of its instructions is good, and a run reaches the exit for its answer
 pub record IsSoundBlock (block : Block) : Type 0 where

@@ -47,16 +47,16 @@ small_blanks (suc count) = (omega arith, small_blanks count)
 -- a list of bytes begins with another
 abbrev pub begins : List ℕ → List ℕ → Bool
 begins bytes [] = true
-begins [] (wanted ∷ others) = false
-begins (byte ∷ bytes) (wanted ∷ others) = byte == wanted && begins bytes others
+begins [] (required ∷ others) = false
+begins (byte ∷ bytes) (required ∷ others) = byte == required && begins bytes others
 
 begins_append : (bytes first second : List ℕ)
     → begins bytes (first ++ second) ≡ (begins bytes first && begins (drop (length first) bytes) second)
 begins_append bytes [] second = refl
-begins_append [] (wanted ∷ first) second = refl
-begins_append (byte ∷ bytes) (wanted ∷ first) second =
-    ap (λ (rest : Bool). byte == wanted && rest) (begins_append bytes first second)
-    ∙ and_assoc (byte == wanted) (begins bytes first) (begins (drop (length first) bytes) second)
+begins_append [] (required ∷ first) second = refl
+begins_append (byte ∷ bytes) (required ∷ first) second =
+    ap (λ (rest : Bool). byte == required && rest) (begins_append bytes first second)
+    ∙ and_assoc (byte == required) (begins bytes first) (begins (drop (length first) bytes) second)
 
 begins_blank : (count : ℕ) (bytes : List ℕ) → count ≤ length bytes → begins bytes (replicate count 32) ≡ are_blank (take count bytes)
 begins_blank zero bytes long = refl
@@ -68,13 +68,13 @@ begins_blank (suc count) (byte ∷ bytes) long = ap (λ (rest : Bool). byte == 3
 same_numbers : (x y v w : ℕ) → x < 2 ^ 8 → y < 2 ^ 8 → (x + 256 * v == y + 256 * w) ≡ (x == y && v == w)
 same_numbers x y v w small others = grind (arith, nat_tests)
 
-value_begins : (bytes wanted : List ℕ) → AreSmall bytes → AreSmall wanted → length wanted ≤ length bytes
-    → (bytes_value (take (length wanted) bytes) == bytes_value wanted) ≡ begins bytes wanted
+value_begins : (bytes required : List ℕ) → AreSmall bytes → AreSmall required → length required ≤ length bytes
+    → (bytes_value (take (length required) bytes) == bytes_value required) ≡ begins bytes required
 value_begins bytes [] small others long = refl
-value_begins [] (wanted ∷ rest) small others long = absurd (omega arith)
-value_begins (byte ∷ bytes) (wanted ∷ rest) small others long =
-    same_numbers byte wanted (bytes_value (take (length rest) bytes)) (bytes_value rest) small.0 others.0
-    ∙ ap (λ (same : Bool). byte == wanted && same) (value_begins bytes rest small.1 others.1 (omega arith))
+value_begins [] (required ∷ rest) small others long = absurd (omega arith)
+value_begins (byte ∷ bytes) (required ∷ rest) small others long =
+    same_numbers byte required (bytes_value (take (length rest) bytes)) (bytes_value rest) small.0 others.0
+    ∙ ap (λ (same : Bool). byte == required && same) (value_begins bytes rest small.1 others.1 (omega arith))
 
 value_below : (count : ℕ) (bytes : List ℕ) → length bytes ≤ count → AreSmall bytes → bytes_value bytes < 256 ^ count
 value_below zero [] short small = omega arith

@@ -11,37 +11,19 @@ use Rattle.bpf_helpers.proofs.CallLemmas.{answer-fits}
 use Rattle.bpf_kinds.specs.Interval.{between}
 use Rattle.bpf_meaning.specs.Effect.{is_allowed}
 use Rattle.cql2.specs.declared.column.CoordinateColumn.{CoordinateColumn}
-use Rattle.cql2.specs.declared.column.CoordinateColumn.TheVariants.{Frlong, Frlat, Tolong, Tolat}
+use Rattle.cql2.specs.declared.column.CoordinateColumn.TheVariants.{Frlong}
 use Rattle.cql2.specs.declared.column.NumberColumn.{NumberColumn}
-use Rattle.cql2.specs.declared.column.NumberColumn.TheVariants.{Tlid, Fraddl, Toaddl, Fraddr, Toaddr, Zipl, Zipr, Statel, Stater, Countyl}
-use Rattle.cql2.specs.declared.column.NumberColumn.TheVariants.{Countyr, Placel, Placer, Tractl, Tractr, Blockl, Blockr}
+use Rattle.cql2.specs.declared.column.NumberColumn.TheVariants.{Tlid}
 use Rattle.tl_segments.specs.Segment.{SegmentParts, IsSegment}
 use Rattle.cql2_code.specs.Question.{coordinate_id, field_id}
 
 pub field_small : (column : NumberColumn) → field_id column ≤ 16
 field_small Tlid = lit≤ tt
-field_small Fraddl = lit≤ tt
-field_small Toaddl = lit≤ tt
-field_small Fraddr = lit≤ tt
-field_small Toaddr = lit≤ tt
-field_small Zipl = lit≤ tt
-field_small Zipr = lit≤ tt
-field_small Statel = lit≤ tt
-field_small Stater = lit≤ tt
-field_small Countyl = lit≤ tt
-field_small Countyr = lit≤ tt
-field_small Placel = lit≤ tt
-field_small Placer = lit≤ tt
-field_small Tractl = lit≤ tt
-field_small Tractr = lit≤ tt
-field_small Blockl = lit≤ tt
-field_small Blockr = lit≤ tt
+field_small column = lit≤ tt
 
 pub coordinate_small : (column : CoordinateColumn) → coordinate_id column ≤ 3
 coordinate_small Frlong = lit≤ tt
-coordinate_small Frlat = lit≤ tt
-coordinate_small Tolong = lit≤ tt
-coordinate_small Tolat = lit≤ tt
+coordinate_small column = lit≤ tt
 
 -- helper functions accept the ids
 

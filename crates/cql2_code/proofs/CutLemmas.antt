@@ -7,32 +7,32 @@ use Rattle.std.proofs.lemmas.List.{drop_more}
 use Rattle.cql2.specs.declared.pattern.PatternPart.{PatternPart}
 use Rattle.cql2.specs.declared.pattern.PatternPart.TheVariants.{Exactly, Alike, One, Many}
 use Rattle.cql2_code.specs.Grid.{grid}
-use Rattle.cql2_code.specs.Lowering.{are_pieces, are_wanted, bytes_where, cell, is_last, is_like, is_piece, rows_of}
-use Rattle.cql2_code.specs.Pieces.{behind_many, pieces_of, taken}
+use Rattle.cql2_code.specs.Lowering.{are_pieces, are_required, bytes_where, cell, is_last, is_like, is_piece, rows_of}
+use Rattle.cql2_code.specs.Pieces.{following_many, least_length, pieces_of}
 use Rattle.cql2_code.specs.Question.{Coded, Decided, Joined, Question}
 use Rattle.cql2_code.specs.declared.field.Field.{Field}
 use Rattle.cql2_code.proofs.PieceLemmas.{lengths}
 
 -- The first `%`
 
-behind_none : (first : List PatternPart) (others : List (List PatternPart)) (is_open : Bool) → (behind_many first others is_open).first ≡ []
-behind_none [] [] is_open = refl
-behind_none [] (piece ∷ others) is_open = refl
-behind_none (part ∷ first) others is_open = refl
+following_none : (first : List PatternPart) (others : List (List PatternPart)) (is_open : Bool) → (following_many first others is_open).first ≡ []
+following_none [] [] is_open = refl
+following_none [] (piece ∷ others) is_open = refl
+following_none (part ∷ first) others is_open = refl
 
 pub first_none : (pattern : List PatternPart) → (pieces_of (Many ∷ pattern)).first ≡ []
-first_none pattern = let rest = pieces_of pattern in behind_none rest.first rest.others rest.is_open
+first_none pattern = let rest = pieces_of pattern in following_none rest.first rest.others rest.is_open
 
 -- another part begins the first piece, and takes a byte
 pub record IsMore (part : PatternPart) (pattern : List PatternPart) : Type 0 where
   pub first : (pieces_of (part ∷ pattern)).first ≡ part ∷ (pieces_of pattern).first
   pub others : (pieces_of (part ∷ pattern)).others ≡ (pieces_of pattern).others
   pub is_open : (pieces_of (part ∷ pattern)).is_open ≡ (pieces_of pattern).is_open
-  pub takes : taken (part ∷ pattern) ≡ suc (taken pattern)
+  pub takes : least_length (part ∷ pattern) ≡ suc (least_length pattern)
 
 pub one_part : (part : PatternPart) (pattern : List PatternPart) → (part ≡ Many → ⊥) → IsMore part pattern
-one_part (Exactly wanted) pattern other = record { first = refl; others = refl; is_open = refl; takes = refl }
-one_part (Alike folding wanted) pattern other = record { first = refl; others = refl; is_open = refl; takes = refl }
+one_part (Exactly required) pattern other = record { first = refl; others = refl; is_open = refl; takes = refl }
+one_part (Alike folding required) pattern other = record { first = refl; others = refl; is_open = refl; takes = refl }
 one_part One pattern other = record { first = refl; others = refl; is_open = refl; takes = refl }
 one_part Many pattern other = absurd (other refl)
 
@@ -49,7 +49,7 @@ pub record IsSplit (pattern : List PatternPart) (count : ℕ) : Type 0 where
   pub first : (pieces_of (drop count pattern)).first ≡ []
   pub others : (pieces_of (drop count pattern)).others ≡ (pieces_of pattern).others
   pub is_open : (pieces_of (drop count pattern)).is_open ≡ (pieces_of pattern).is_open
-  pub takes : taken pattern ≡ count + taken (drop count pattern)
+  pub takes : least_length pattern ≡ count + least_length (drop count pattern)
 
 split_more : (part : PatternPart) (pattern : List PatternPart) → IsMore part pattern → IsSplit pattern (length (pieces_of pattern).first)
     → IsSplit (part ∷ pattern) (length (pieces_of (part ∷ pattern)).first)
@@ -70,10 +70,10 @@ split_first [] = record { front = refl; first = refl; others = refl; is_open = r
 split_first (Many ∷ pattern) =
     let none = first_none pattern in
     rw (ap length none) (record { front = sym none; first = none; others = refl; is_open = refl; takes = omega arith })
-split_first (Exactly wanted ∷ pattern) =
-    split_more (Exactly wanted) pattern (record { first = refl; others = refl; is_open = refl; takes = refl }) (split_first pattern)
-split_first (Alike folding wanted ∷ pattern) =
-    split_more (Alike folding wanted) pattern (record { first = refl; others = refl; is_open = refl; takes = refl }) (split_first pattern)
+split_first (Exactly required ∷ pattern) =
+    split_more (Exactly required) pattern (record { first = refl; others = refl; is_open = refl; takes = refl }) (split_first pattern)
+split_first (Alike folding required ∷ pattern) =
+    split_more (Alike folding required) pattern (record { first = refl; others = refl; is_open = refl; takes = refl }) (split_first pattern)
 split_first (One ∷ pattern) = split_more One pattern (record { first = refl; others = refl; is_open = refl; takes = refl }) (split_first pattern)
 
 -- Bytes that a test chooses, in descending order
@@ -117,7 +117,7 @@ pub record IsFirstAndRest (pattern piece rest : List PatternPart) : Type 0 where
   pub first : (pieces_of rest).first ≡ []
   pub others : (pieces_of rest).others ≡ (pieces_of pattern).others
   pub is_open : (pieces_of rest).is_open ≡ (pieces_of pattern).is_open
-  pub takes : taken pattern ≡ length piece + taken rest
+  pub takes : least_length pattern ≡ length piece + least_length rest
 
 pub first_and_rest : (pattern piece rest : List PatternPart) (count : ℕ) → count ≡ length (pieces_of pattern).first → piece ≡ take count pattern
     → rest ≡ drop count pattern → IsFirstAndRest pattern piece rest
@@ -126,7 +126,7 @@ first_and_rest pattern piece rest count counted front back =
     let piece_is = front ∙ ap (λ (n : ℕ). take n pattern) counted ∙ split.front in
     let rest_is = back ∙ ap (λ (n : ℕ). drop n pattern) counted in
     let length_is = ap length piece_is in
-    let taken_is = ap taken rest_is in
+    let taken_is = ap least_length rest_is in
     let sum = split.takes in
     record {
       piece_is = piece_is;
@@ -142,7 +142,7 @@ AreFilled [] = Unit {0}
 AreFilled (piece ∷ pieces) = (1 ≤ length piece) × AreFilled pieces
 
 record IsCounted (pattern first : List PatternPart) (others : List (List PatternPart)) (is_open : Bool) : Type 0 where
-  takes : taken pattern ≡ length first + lengths others
+  takes : least_length pattern ≡ length first + lengths others
   filled : AreFilled others
   open_is : length first ≡ 0 → length others ≡ 0 → is_open ≡ not (length pattern == 0)
 
@@ -150,7 +150,7 @@ not_none : (count : ℕ) → true ≡ not (suc count == 0)
 not_none count = grind (arith, nat_tests)
 
 counted_many : (pattern first : List PatternPart) (others : List (List PatternPart)) (is_open : Bool) → IsCounted pattern first others is_open
-    → (let cut = behind_many first others is_open in IsCounted (Many ∷ pattern) cut.first cut.others cut.is_open)
+    → (let cut = following_many first others is_open in IsCounted (Many ∷ pattern) cut.first cut.others cut.is_open)
 counted_many pattern [] [] is_open counted =
     record { takes = counted.takes; filled = tt; open_is = λ none no_others. not_none (length pattern) }
 counted_many pattern [] (piece ∷ others) is_open counted =
@@ -160,7 +160,7 @@ counted_many pattern (part ∷ first) others is_open counted =
     record { takes = omega arith; filled = (omega arith, counted.filled); open_is = λ none no_others. absurd (omega arith) }
 
 counted_part : (part : PatternPart) (pattern first : List PatternPart) (others : List (List PatternPart)) (is_open : Bool)
-    → taken (part ∷ pattern) ≡ suc (taken pattern) → IsCounted pattern first others is_open
+    → least_length (part ∷ pattern) ≡ suc (least_length pattern) → IsCounted pattern first others is_open
     → IsCounted (part ∷ pattern) (part ∷ first) others is_open
 counted_part part pattern first others is_open more counted =
     let sum = counted.takes in
@@ -170,71 +170,71 @@ count_pieces : (pattern : List PatternPart) → (let pieces = pieces_of pattern 
 count_pieces [] = record { takes = refl; filled = tt; open_is = λ none no_others. refl }
 count_pieces (Many ∷ pattern) =
     let pieces = pieces_of pattern in counted_many pattern pieces.first pieces.others pieces.is_open (count_pieces pattern)
-count_pieces (Exactly wanted ∷ pattern) =
+count_pieces (Exactly required ∷ pattern) =
     let pieces = pieces_of pattern in
-    counted_part (Exactly wanted) pattern pieces.first pieces.others pieces.is_open refl (count_pieces pattern)
-count_pieces (Alike folding wanted ∷ pattern) =
+    counted_part (Exactly required) pattern pieces.first pieces.others pieces.is_open refl (count_pieces pattern)
+count_pieces (Alike folding required ∷ pattern) =
     let pieces = pieces_of pattern in
-    counted_part (Alike folding wanted) pattern pieces.first pieces.others pieces.is_open refl (count_pieces pattern)
+    counted_part (Alike folding required) pattern pieces.first pieces.others pieces.is_open refl (count_pieces pattern)
 count_pieces (One ∷ pattern) =
     let pieces = pieces_of pattern in counted_part One pattern pieces.first pieces.others pieces.is_open refl (count_pieces pattern)
 
 -- no piece follows exactly if no byte is taken
-none_taken : (others : List (List PatternPart)) (taken : ℕ) → AreFilled others → taken ≡ lengths others → is_last others ≡ (taken == 0)
-none_taken [] taken filled sum = sym (ap (λ (n : ℕ). n == 0) sum)
-none_taken (piece ∷ others) taken filled sum =
-    let some = filled.0 in some_taken taken (omega arith)
+none_taken : (others : List (List PatternPart)) (least_length : ℕ) → AreFilled others → least_length ≡ lengths others → is_last others ≡ (least_length == 0)
+none_taken [] least_length filled sum = sym (ap (λ (n : ℕ). n == 0) sum)
+none_taken (piece ∷ others) least_length filled sum =
+    let some = filled.0 in some_taken least_length (omega arith)
   where
-    some_taken : (taken : ℕ) → 1 ≤ taken → false ≡ (taken == 0)
-    some_taken taken some = grind (arith, nat_tests)
+    some_taken : (least_length : ℕ) → 1 ≤ least_length → false ≡ (least_length == 0)
+    some_taken least_length some = grind (arith, nat_tests)
 
-pub last_taken : (pattern : List PatternPart) → (pieces_of pattern).first ≡ [] → is_last (pieces_of pattern).others ≡ (taken pattern == 0)
+pub last_taken : (pattern : List PatternPart) → (pieces_of pattern).first ≡ [] → is_last (pieces_of pattern).others ≡ (least_length pattern == 0)
 last_taken pattern none =
     let counted = count_pieces pattern in
     let sum = counted.takes in
     let no_first = ap length none in
-    none_taken (pieces_of pattern).others (taken pattern) counted.filled (omega arith)
+    none_taken (pieces_of pattern).others (least_length pattern) counted.filled (omega arith)
 
-pub none_others : (pattern : List PatternPart) → (pieces_of pattern).first ≡ [] → taken pattern ≡ 0 → (pieces_of pattern).others ≡ []
+pub none_others : (pattern : List PatternPart) → (pieces_of pattern).first ≡ [] → least_length pattern ≡ 0 → (pieces_of pattern).others ≡ []
 none_others pattern none zero_taken = by_others (pieces_of pattern).others (last_taken pattern none ∙ ap (λ (n : ℕ). n == 0) zero_taken)
   where
     by_others : (others : List (List PatternPart)) → is_last others ≡ true → others ≡ []
     by_others [] is = refl
     by_others (piece ∷ others) is = absurd (false≢true is)
 
-pub open_length : (pattern : List PatternPart) → (pieces_of pattern).first ≡ [] → taken pattern ≡ 0
+pub open_length : (pattern : List PatternPart) → (pieces_of pattern).first ≡ [] → least_length pattern ≡ 0
     → (pieces_of pattern).is_open ≡ not (length pattern == 0)
 open_length pattern none zero_taken =
     (count_pieces pattern).open_is (ap length none) (ap length (none_others pattern none zero_taken))
 
 -- a pattern that begins with `%`
-behind_is : (part : PatternPart) (behind : List PatternPart) → (pieces_of (part ∷ behind)).first ≡ [] → part ≡ Many
-behind_is Many behind none = refl
-behind_is (Exactly wanted) behind none = absurd cc
-behind_is (Alike folding wanted) behind none = absurd cc
-behind_is One behind none = absurd cc
+following_is : (part : PatternPart) (following : List PatternPart) → (pieces_of (part ∷ following)).first ≡ [] → part ≡ Many
+following_is Many following none = refl
+following_is (Exactly required) following none = absurd cc
+following_is (Alike folding required) following none = absurd cc
+following_is One following none = absurd cc
 
-abbrev pub rows_behind : Field → ℕ → List PatternPart → List (ℕ → Question)
-rows_behind field from pattern = rows_of field (pieces_of pattern).is_open from (pieces_of pattern).others
+abbrev pub rows_following : Field → ℕ → List PatternPart → List (ℕ → Question)
+rows_following field from pattern = rows_of field (pieces_of pattern).is_open from (pieces_of pattern).others
 
 abbrev rows_cut : Field → ℕ → List PatternPart → List (List PatternPart) → Bool → List (ℕ → Question)
 rows_cut field from first others is_open =
-    let cut = behind_many first others is_open in rows_of field cut.is_open from cut.others
+    let cut = following_many first others is_open in rows_of field cut.is_open from cut.others
 
 -- A pattern is a `%`, and then a piece and the rest.
-pub record IsManyAndRest (pattern behind piece rest : List PatternPart) : Type 0 where
+pub record IsManyAndRest (pattern following piece rest : List PatternPart) : Type 0 where
   pub part : PatternPart
-  pub is : pattern ≡ part ∷ behind
+  pub is : pattern ≡ part ∷ following
   pub begins : (pieces_of pattern).first ≡ []
-  pub split : IsFirstAndRest behind piece rest
+  pub split : IsFirstAndRest following piece rest
 
-is_many : {pattern behind piece rest : List PatternPart} (cut : IsManyAndRest pattern behind piece rest) → cut.part ≡ Many
-is_many {behind = behind} cut =
-    behind_is cut.part behind (sym (ap (λ (parts : List PatternPart). (pieces_of parts).first) cut.is) ∙ cut.begins)
+is_many : {pattern following piece rest : List PatternPart} (cut : IsManyAndRest pattern following piece rest) → cut.part ≡ Many
+is_many {following = following} cut =
+    following_is cut.part following (sym (ap (λ (parts : List PatternPart). (pieces_of parts).first) cut.is) ∙ cut.begins)
 
 -- the row of a piece
 abbrev pub row_of : Field → ℕ → List PatternPart → List PatternPart → ℕ → Question
-row_of field from piece rest shift = cell field piece (taken rest == 0) (not (length rest == 0)) (from + shift)
+row_of field from piece rest shift = cell field piece (least_length rest == 0) (not (length rest == 0)) (from + shift)
 
 row_is : (field : Field) (from : ℕ) (piece rest : List PatternPart) (others : List (List PatternPart)) (is_open : Bool)
     → (pieces_of rest).first ≡ [] → (pieces_of rest).others ≡ others → (pieces_of rest).is_open ≡ is_open
@@ -243,7 +243,7 @@ row_is field from piece rest [] is_open none others_are open_is =
     let sum = (count_pieces rest).takes in
     let no_first = ap length none in
     let no_others = ap lengths others_are in
-    let zero_taken : taken rest ≡ 0 = omega arith in
+    let zero_taken : least_length rest ≡ 0 = omega arith in
     ap (λ (b : Bool). (let first : ℕ → Question = λ shift. cell field piece true b (from + shift) in first))
     (sym open_is ∙ open_length rest none zero_taken)
     ∙ ap (λ (b : Bool). (let first : ℕ → Question = λ shift. cell field piece b (not (length rest == 0)) (from + shift) in first))
@@ -252,15 +252,15 @@ row_is field from piece rest (next ∷ others) is_open none others_are open_is =
     ap (λ (b : Bool). (let first : ℕ → Question = λ shift. cell field piece b (not (length rest == 0)) (from + shift) in first))
     (sym (ap is_last others_are) ∙ last_taken rest none)
 
-pub rows_next : (field : Field) (from : ℕ) (pattern behind piece rest : List PatternPart) → IsManyAndRest pattern behind piece rest
-    → 0 < length piece → rows_behind field from pattern ≡ row_of field from piece rest ∷ rows_behind field (from + length piece) rest
-rows_next field from pattern behind [] rest cut some = absurd (omega arith)
-rows_next field from pattern behind (first ∷ piece) rest cut some =
+pub rows_next : (field : Field) (from : ℕ) (pattern following piece rest : List PatternPart) → IsManyAndRest pattern following piece rest
+    → 0 < length piece → rows_following field from pattern ≡ row_of field from piece rest ∷ rows_following field (from + length piece) rest
+rows_next field from pattern following [] rest cut some = absurd (omega arith)
+rows_next field from pattern following (first ∷ piece) rest cut some =
     let split = cut.split in
-    let others = (pieces_of behind).others in
-    let is_open = (pieces_of behind).is_open in
+    let others = (pieces_of following).others in
+    let is_open = (pieces_of following).is_open in
     let later = rows_of field is_open (from + length (first ∷ piece)) others in
-    ap (rows_behind field from) cut.is ∙ ap (λ (begin : PatternPart). rows_behind field from (begin ∷ behind)) (is_many cut)
+    ap (rows_following field from) cut.is ∙ ap (λ (begin : PatternPart). rows_following field from (begin ∷ following)) (is_many cut)
     ∙ ap (λ (parts : List PatternPart). rows_cut field from parts others is_open) (sym split.piece_is)
     ∙ ap (λ (row : ℕ → Question). row ∷ later)
     (row_is field from (first ∷ piece) rest others is_open split.first split.others split.is_open)
@@ -268,23 +268,23 @@ rows_next field from pattern behind (first ∷ piece) rest cut some =
     (ap (λ (b : Bool). rows_of field b (from + length (first ∷ piece)) others) (sym split.is_open)
     ∙ ap (rows_of field (pieces_of rest).is_open (from + length (first ∷ piece))) (sym split.others))
 
-pub rows_empty : (field : Field) (from : ℕ) (pattern : List PatternPart) → length pattern ≡ 0 → rows_behind field from pattern ≡ []
+pub rows_empty : (field : Field) (from : ℕ) (pattern : List PatternPart) → length pattern ≡ 0 → rows_following field from pattern ≡ []
 rows_empty field from [] none = refl
 rows_empty field from (part ∷ pattern) none = absurd (omega arith)
 
 -- what is taken after a `%`
-pub taken_behind : (pattern behind piece rest : List PatternPart) → IsManyAndRest pattern behind piece rest
-    → taken pattern ≡ length piece + taken rest
-taken_behind pattern behind piece rest cut =
-    ap taken cut.is ∙ ap (λ (first : PatternPart). taken (first ∷ behind)) (is_many cut) ∙ cut.split.takes
+pub taken_following : (pattern following piece rest : List PatternPart) → IsManyAndRest pattern following piece rest
+    → least_length pattern ≡ length piece + least_length rest
+taken_following pattern following piece rest cut =
+    ap least_length cut.is ∙ ap (λ (first : PatternPart). least_length (first ∷ following)) (is_many cut) ∙ cut.split.takes
 
 -- Whole patterns
 
-pub like_one : (field : Field) (pattern piece rest : List PatternPart) → IsFirstAndRest pattern piece rest → taken rest ≡ 0
+pub like_one : (field : Field) (pattern piece rest : List PatternPart) → IsFirstAndRest pattern piece rest → least_length rest ≡ 0
     → is_like field pattern ≡ is_piece field piece (not (length rest == 0))
 like_one field pattern piece rest split zero_taken =
     ap (λ (others : List (List PatternPart)).
-    are_pieces field (pieces_of pattern).first others (pieces_of pattern).is_open (taken pattern))
+    are_pieces field (pieces_of pattern).first others (pieces_of pattern).is_open (least_length pattern))
     (sym split.others ∙ none_others rest split.first zero_taken)
     ∙ ap (is_piece field (pieces_of pattern).first) (sym split.is_open ∙ open_length rest split.first zero_taken)
     ∙ ap (λ (first : List PatternPart). is_piece field first (not (length rest == 0))) (sym split.piece_is)
@@ -294,37 +294,37 @@ are_several : (field : Field) (first : List PatternPart) (others : List (List Pa
     → is_last others ≡ false
     → are_pieces field first others is_open total
     ≡ (if nat_le total field.width
-    then Joined true (are_wanted field.offset first)
+    then Joined true (are_required field.offset first)
     (Coded (grid (rows_of field is_open (length first) others) (suc (field.width - total))))
     else Decided false)
 are_several field first [] is_open total more = absurd (false≢true (sym more))
 are_several field first (piece ∷ others) is_open total more = refl
 
-several : (rest : List PatternPart) → (pieces_of rest).first ≡ [] → 0 < taken rest → is_last (pieces_of rest).others ≡ false
-several rest none some = last_taken rest none ∙ some_taken (taken rest) some
+several : (rest : List PatternPart) → (pieces_of rest).first ≡ [] → 0 < least_length rest → is_last (pieces_of rest).others ≡ false
+several rest none some = last_taken rest none ∙ some_taken (least_length rest) some
   where
     some_taken : (count : ℕ) → 0 < count → (count == 0) ≡ false
     some_taken count some = grind (arith, nat_tests)
 
-pub like_long : (field : Field) (pattern piece rest : List PatternPart) → IsFirstAndRest pattern piece rest → 0 < taken rest
-    → field.width < taken pattern → is_like field pattern ≡ Decided false
+pub like_long : (field : Field) (pattern piece rest : List PatternPart) → IsFirstAndRest pattern piece rest → 0 < least_length rest
+    → field.width < least_length pattern → is_like field pattern ≡ Decided false
 like_long field pattern piece rest split some long =
-    are_several field (pieces_of pattern).first (pieces_of pattern).others (pieces_of pattern).is_open (taken pattern)
+    are_several field (pieces_of pattern).first (pieces_of pattern).others (pieces_of pattern).is_open (least_length pattern)
     (sym (ap is_last split.others) ∙ several rest split.first some)
-    ∙ rw (lt-leb-false (taken pattern) field.width long) refl
+    ∙ rw (lt-leb-false (least_length pattern) field.width long) refl
   where
     lt-leb-false : (m n : ℕ) → n < m → nat_le m n ≡ false
     lt-leb-false m n less = grind (arith, nat_tests)
 
 pub like_several : (field : Field) (pattern piece rest : List PatternPart) (columns : ℕ) → IsFirstAndRest pattern piece rest
-    → 0 < taken rest → taken pattern ≤ field.width → columns ≡ field.width - taken pattern + 1
+    → 0 < least_length rest → least_length pattern ≤ field.width → columns ≡ field.width - least_length pattern + 1
     → is_like field pattern
-    ≡ Joined true (are_wanted field.offset piece) (Coded (grid (rows_behind field (length piece) rest) columns))
+    ≡ Joined true (are_required field.offset piece) (Coded (grid (rows_following field (length piece) rest) columns))
 like_several field pattern piece rest columns split some short counted =
-    let next : columns ≡ suc (field.width - taken pattern) = omega arith in
-    are_several field (pieces_of pattern).first (pieces_of pattern).others (pieces_of pattern).is_open (taken pattern)
+    let next : columns ≡ suc (field.width - least_length pattern) = omega arith in
+    are_several field (pieces_of pattern).first (pieces_of pattern).others (pieces_of pattern).is_open (least_length pattern)
     (sym (ap is_last split.others) ∙ several rest split.first some)
-    ∙ rw (le-leb (taken pattern) field.width short)
+    ∙ rw (le-leb (least_length pattern) field.width short)
     (ap (λ (n : ℕ). asks (pieces_of pattern).first (pieces_of pattern).others (pieces_of pattern).is_open n) (sym next)
     ∙ ap (λ (first : List PatternPart). asks first (pieces_of pattern).others (pieces_of pattern).is_open columns) (sym split.piece_is)
     ∙ ap (λ (others : List (List PatternPart)). asks piece others (pieces_of pattern).is_open columns) (sym split.others)
@@ -332,4 +332,4 @@ like_several field pattern piece rest columns split some short counted =
   where
     asks : List PatternPart → List (List PatternPart) → Bool → ℕ → Question
     asks first others is_open columns =
-        Joined true (are_wanted field.offset first) (Coded (grid (rows_of field is_open (length first) others) columns))
+        Joined true (are_required field.offset first) (Coded (grid (rows_of field is_open (length first) others) columns))

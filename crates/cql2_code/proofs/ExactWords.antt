@@ -15,8 +15,7 @@ use Rattle.cql2.specs.Column.{numeric_value}
 use Rattle.cql2.specs.Expression.{bound, column_bound, combined, combined_bound, is_bounded, of_both, value_of}
 use Rattle.cql2.specs.Truth.{is}
 use Rattle.cql2.specs.declared.column.NumberColumn.{NumberColumn}
-use Rattle.cql2.specs.declared.column.NumberColumn.TheVariants.{Tlid, Fraddl, Toaddl, Fraddr, Toaddr, Zipl, Zipr, Statel, Stater}
-use Rattle.cql2.specs.declared.column.NumberColumn.TheVariants.{Countyl, Countyr, Placel, Placer, Tractl, Tractr, Blockl, Blockr}
+use Rattle.cql2.specs.declared.column.NumberColumn.TheVariants.{Tlid}
 use Rattle.cql2.specs.declared.column.NumericColumn.{NumericColumn}
 use Rattle.cql2.specs.declared.column.NumericColumn.TheVariants as column
 use Rattle.cql2.specs.declared.expression.Expression.{Expression}
@@ -50,22 +49,7 @@ not_some x e = absurd cc
 
 field_few : (field : NumberColumn) → column_bound (column.Number field) < 2 ^ 62
 field_few Tlid = lit< tt
-field_few Fraddl = lit< tt
-field_few Toaddl = lit< tt
-field_few Fraddr = lit< tt
-field_few Toaddr = lit< tt
-field_few Zipl = lit< tt
-field_few Zipr = lit< tt
-field_few Statel = lit< tt
-field_few Stater = lit< tt
-field_few Countyl = lit< tt
-field_few Countyr = lit< tt
-field_few Placel = lit< tt
-field_few Placer = lit< tt
-field_few Tractl = lit< tt
-field_few Tractr = lit< tt
-field_few Blockl = lit< tt
-field_few Blockr = lit< tt
+field_few column = lit< tt
 
 column_few : (column : NumericColumn) → column_bound column < 2 ^ 62
 column_few (column.Number field) = field_few field

@@ -4,7 +4,7 @@ use Rattle.bpf_insn.specs.declared.instruction.Insn.{Insn}
 use Rattle.cql2.specs.declared.column.NumericColumn.{NumericColumn}
 use Rattle.cql2.specs.declared.column.NumericColumn.TheVariants as column
 use Rattle.std.specs.Prelude.{IsTrue}
-use Rattle.cql2.specs.Expression.{depth, is_exact, kept_for}
+use Rattle.cql2.specs.Expression.{depth, is_exact, saved_for}
 use Rattle.cql2.specs.declared.expression.Expression.{Expression}
 use Rattle.cql2.specs.declared.expression.Expression.TheVariants.{Literal, Column, Negated', Combined'}
 use Rattle.cql2.specs.declared.expression.Operator.{Operator}
@@ -31,20 +31,20 @@ has_value_sound (column.Coordinate place) = record { subject = tt; operand = sma
 number_sound : {A : Type 0} (expression : Expression A) → depth expression ≤ 3 → IsSoundCode (number_code expression 0) (word_of expression)
 number_sound expression few = record {
   rests = λ keeps. number_rests keeps expression 0;
-  passes = λ keeps kept. number_passes keeps expression 0 kept;
+  passes = λ keeps saved. number_passes keeps expression 0 saved;
   runs = λ on segment from. number_runs on expression 0 from (omega arith);
 }
 
-difference_sound : {A : Type 0} (first second : Expression A) → depth first ≤ 3 → kept_for second (depth second) ≤ 3
+difference_sound : {A : Type 0} (first second : Expression A) → depth first ≤ 3 → saved_for second (depth second) ≤ 3
     → IsSoundCode (difference_code first second) (difference_word first second)
 difference_sound first second few fewer = record {
   rests = λ keeps.
       needed_by-append keeps front back (answered keeps) ∙ ap (needed_by keeps front) (second_needs keeps Subtract 0 second inner)
       ∙ number_rests keeps first 0;
-  passes = λ keeps kept.
+  passes = λ keeps saved.
       all_pass-append keeps front back (answered keeps)
-      (subst (AllPass keeps front) (sym (second_needs keeps Subtract 0 second inner)) (number_passes keeps first 0 (keeps_front keeps front back kept)))
-      (second_passes keeps Subtract 0 second inner (number_rests keeps second 1) (number_passes keeps second 1) (keeps_back keeps front back kept));
+      (subst (AllPass keeps front) (sym (second_needs keeps Subtract 0 second inner)) (number_passes keeps first 0 (keeps_front keeps front back saved)))
+      (second_passes keeps Subtract 0 second inner (number_rests keeps second 1) (number_passes keeps second 1) (keeps_back keeps front back saved));
   runs = λ on segment from. after_runs on Subtract first second from few fewer;
 }
   where
@@ -71,8 +71,8 @@ second_sound Multiply second known few sound = sound
 second_sound Divide second known few sound = (sound, divisor_sound second few)
 second_sound Remainder second known few sound = (sound, divisor_sound second few)
 
--- a second operand is no deeper than what is kept for it
-inner_depth : {A : Type 0} (second : Expression A) → depth second ≤ kept_for second (depth second)
+-- a second operand is no deeper than what is saved for it
+inner_depth : {A : Type 0} (second : Expression A) → depth second ≤ saved_for second (depth second)
 inner_depth (Literal literal) = omega arith
 inner_depth (Column column) = omega arith
 inner_depth (Negated' p inner) = omega arith
@@ -89,24 +89,24 @@ known_sound (Combined' operator p first q second) few =
     )
 
 compares_numbers_sound : {A : Type 0} (first : Expression A) (comparison : Comparison) (second : Expression A)
-    → depth first ≤ 3 → kept_for second (depth second) ≤ 3 → IsSound (compares_numbers first comparison second)
+    → depth first ≤ 3 → saved_for second (depth second) ≤ 3 → IsSound (compares_numbers first comparison second)
 compares_numbers_sound first comparison second few fewer =
     let inner = inner_depth second in (
       known_sound first few,
       (known_sound second (omega arith), zero_sound _ _ comparison (difference_sound first second few fewer)),
     )
 
--- a second operand is kept for at most once more than it keeps
-kept_depth : {A : Type 0} (second : Expression A) → kept_for second (depth second) ≤ suc (depth second)
-kept_depth (Literal literal) = omega arith
-kept_depth (Column column) = omega arith
-kept_depth (Negated' p inner) = omega arith
-kept_depth (Combined' operator p first q second) = omega arith
+-- a second operand needs at most one saved number more than its depth
+saved_depth : {A : Type 0} (second : Expression A) → saved_for second (depth second) ≤ suc (depth second)
+saved_depth (Literal literal) = omega arith
+saved_depth (Column column) = omega arith
+saved_depth (Negated' p inner) = omega arith
+saved_depth (Combined' operator p first q second) = omega arith
 
 pub exact_sound : {A : Type 0} (first : Expression A) (comparison : Comparison) (second : Expression A) → IsTrue (is_exact first)
     → IsTrue (is_exact second) → IsSound (compares_numbers first comparison second)
 exact_sound first comparison second exact exact_too =
     let few = exact_depth first exact in
     let fewer = exact_depth second exact_too in
-    let kept = kept_depth second in
+    let saved = saved_depth second in
     compares_numbers_sound first comparison second (omega arith) (omega arith)

@@ -21,7 +21,7 @@ use Rattle.cql2_code.proofs.NameLemmas.{has_name_rightly}
 use Rattle.cql2_code.proofs.NumberLemmas.{small_fits}
 use Rattle.cql2_code.proofs.RangeLemmas.{has_number_rightly}
 use Rattle.cql2_code.proofs.ShapeLemmas.{intersects_rightly, meets_soundly, starts_in_bounds_rightly, starts_in_rightly, within_rightly, within_soundly}
-use Rattle.cql2_code.proofs.TextLemmas.{IsWanted, text_wanted}
+use Rattle.cql2_code.proofs.TextLemmas.{IsRequired, text_required}
 
 -- Names and ranges: their numbers are within their types
 
@@ -48,13 +48,13 @@ has_number_sound : (house : ℕ) (asked : Bool) → house < 2 ^ 64 → IsSound (
 has_number_sound house asked fits =
     if_asked_sound (lies_from house 0 (suc MAX_RANGES)) asked (lies_sound house 0 (suc MAX_RANGES) fits (omega arith))
 
-named_sound : (wanted : List ℕ) (at more : ℕ) → AreBytes 32 wanted → at + more ≤ 2 ^ 16 → IsSound (is_named_from wanted at more)
+named_sound : (required : List ℕ) (at more : ℕ) → AreBytes 32 required → at + more ≤ 2 ^ 16 → IsSound (is_named_from required at more)
 unfolding is_named_from
-named_sound wanted at zero block few = tt
-named_sound wanted at (suc more) block few = part_sound _ _ _
+named_sound required at zero block few = tt
+named_sound required at (suc more) block few = part_sound _ _ _
     (record { subject = tt; operand = count_sound at (omega arith) })
     (record { subject = (omega arith, block); operand = zero_fits })
-    (named_sound wanted (at + 1) more block (omega arith)) (checks_for_end at)
+    (named_sound required (at + 1) more block (omega arith)) (checks_for_end at)
 
 small_each : (bytes : List ℕ) → AreSmall bytes → (i : ℕ) → slice_index bytes i < 2 ^ 8
 small_each [] small i = omega arith
@@ -65,20 +65,20 @@ small_append : (first second : List ℕ) → AreSmall first → AreSmall second 
 small_append [] second small others = others
 small_append (byte ∷ first) second small others = (small.0, small_append first second small.1 others)
 
-block_is : (text : List ℕ) → IsWanted text → AreBytes 32 (name_block text)
-block_is text wanted =
-    let few = wanted.few in
+block_is : (text : List ℕ) → IsRequired text → AreBytes 32 (name_block text)
+block_is text required =
+    let few = required.few in
     let count = 32 - length text in
     record {
       length = omega (arith, length-append text (replicate count 32), length-replicate {A = ℕ} count 32);
-      bytes = small_each (name_block text) (small_append text (replicate count 32) wanted.small (small_blanks count));
+      bytes = small_each (name_block text) (small_append text (replicate count 32) required.small (small_blanks count));
     }
 
-has_name_sound : (text : List ℕ) (most : ℕ) (asked : Bool) → IsWanted text → most < 2 ^ 16 → IsSound (asks_has_name text most asked)
-has_name_sound text most true wanted fits = named_sound (name_block text) 0 (suc most) (block_is text wanted) (omega arith)
-has_name_sound text most false wanted fits = (
+has_name_sound : (text : List ℕ) (most : ℕ) (asked : Bool) → IsRequired text → most < 2 ^ 16 → IsSound (asks_has_name text most asked)
+has_name_sound text most true required fits = named_sound (name_block text) 0 (suc most) (block_is text required) (omega arith)
+has_name_sound text most false required fits = (
   record { subject = tt; operand = count_sound most fits },
-  named_sound (name_block text) 0 (suc most) (block_is text wanted) (omega arith),
+  named_sound (name_block text) 0 (suc most) (block_is text required) (omega arith),
 )
 
 -- Functions
@@ -86,7 +86,7 @@ has_name_sound text most false wanted fits = (
 pub function_soundly : {A : Type 0} (function : Function A) (asked : Bool) → IsSound (asks_function function asked)
 function_soundly (HasNumber house) asked = has_number_sound house.number asked house.fits
 function_soundly (HasName text limit) asked =
-    has_name_sound text.bytes.items limit.number asked (text_wanted text.bytes.items text.is_text) limit.fits
+    has_name_sound text.bytes.items limit.number asked (text_required text.bytes.items text.is_text) limit.fits
 function_soundly (Intersects shape) asked = meets_soundly Whole shape asked
 function_soundly (StartsIn several) asked = meets_soundly Start (shape.Polygons several) asked
 function_soundly (StartsInBounds bounds) asked = within_soundly Start bounds asked
@@ -96,7 +96,7 @@ pub function_rightly : {A : Type 0} (segment : SegmentParts) → IsSegment segme
     → answer (asks_function function asked) segment ≡ is_truth (truth_of function segment) asked
 function_rightly segment is (HasNumber house) asked = has_number_rightly segment is house.number asked
 function_rightly segment is (HasName text limit) asked =
-    has_name_rightly segment is text.bytes.items limit.number (text_wanted text.bytes.items text.is_text).few limit.fits asked
+    has_name_rightly segment is text.bytes.items limit.number (text_required text.bytes.items text.is_text).few limit.fits asked
 function_rightly segment is (Intersects shape) asked = intersects_rightly segment shape asked
 function_rightly segment is (StartsIn several) asked = starts_in_rightly segment several asked
 function_rightly segment is (StartsInBounds bounds) asked = starts_in_bounds_rightly segment bounds asked

@@ -28,7 +28,7 @@ use Rattle.bpf_verify.specs.Annotation.{PassesAt}
 use Rattle.bpf_verify.specs.LiftedState.{LiftedState, Unreached, Edges, IsWithin}
 use Rattle.bpf_verify.specs.Transfer.{narrowed, on_edge, transfer}
 use Rattle.cql2_code.specs.Layout.{jump, from_result, from_argument_1}
-use Rattle.cql2_code.proofs.AbstractState.{Held, all_kept, annotation_of, answered, any_number, before, knows_more, nothing, registers_of, rests_after}
+use Rattle.cql2_code.proofs.AbstractState.{Held, all_saved, annotation_of, answered, any_number, before, knows_more, nothing, registers_of, rests_after}
 use Rattle.cql2_code.proofs.AbstractState.{resting, state_before}
 use Rattle.cql2_code.proofs.Passes.{AllPass, Passes, needed_by}
 use Rattle.cql2_code.proofs.Steps.{conditional_jump, field_is, HasAt}
@@ -180,7 +180,7 @@ module _ (keeps : Bool) where
   -- the state on an edge of the jump
   abbrev edge_by : Condition → Source → Option Narrowed → LiftedState
   edge_by condition source implied =
-      on_edge (record { registers = registers_of (all_kept keeps) (held_before source); frame = unwritten })
+      on_edge (record { registers = registers_of (all_saved keeps) (held_before source); frame = unwritten })
       (record { condition = condition; width = Bits64; left = from_result; right = source }) (narrowed implied)
 
   abbrev edge : Condition → Source → Bool → LiftedState

@@ -171,7 +171,7 @@ row_good : (r : RowCode) (below : GoodBelow r) (at : ℕ) (starts : List ℕ) (p
     → EndsAt below.code (laid r at starts).code place below.end → Keeps r.keeps (laid r at starts).code
     → AreGoodAt r.keeps below.code place (laid r at starts).code
 unfolding lay_row
-row_good r below at [] place sound stand ends kept =
+row_good r below at [] place sound stand ends saved =
     let jump = question_code (Decided false) true r.skip in
     let count = word_count-append jump r.rest in
     let is : place + word_count (jump ++ r.rest) ≡ below.end = ends.is in
@@ -184,7 +184,7 @@ row_good r below at [] place sound stand ends kept =
       end = subst (Rests r.keeps below.code) e below.there;
       target = subst (λ (p : ℕ). Rests r.keeps below.code (p + r.skip)) e below.target;
     })) (subst (λ (p : ℕ). AreGoodAt r.keeps below.code p r.rest) e below.good)
-row_good r below at (start ∷ starts) place sound stand ends kept =
+row_good r below at (start ∷ starts) place sound stand ends saved =
     let others = laid r (at + 1) starts in
     let over = word_count others.code - start in
     let cell = question_code (r.row at) false over in
@@ -194,14 +194,14 @@ row_good r below at (start ∷ starts) place sound stand ends kept =
     let e : place + word_count cell + word_count others.code ≡ below.end = after.is in
     let down : below.end - start ≡ place + word_count cell + over = omega arith in
     good-append r.keeps below.code place cell others.code
-    (question_good r.keeps below.code (r.row at) false over place sound.0 (keeps_front r.keeps cell others.code kept)
+    (question_good r.keeps below.code (r.row at) false over place sound.0 (keeps_front r.keeps cell others.code saved)
     (record {
       has = has_front below.code place cell others.code ends.has;
       end = rests_at r.keeps below.code (place + word_count cell) others.code after.has (row_needs r (at + 1) starts sound.1)
           (subst (Rests r.keeps below.code) (sym e) below.last);
       target = subst (Rests r.keeps below.code) down stand.0.1;
     }))
-    (row_good r below (at + 1) starts (place + word_count cell) sound.1 stand.1 after (keeps_back r.keeps cell others.code kept))
+    (row_good r below (at + 1) starts (place + word_count cell) sound.1 stand.1 after (keeps_back r.keeps cell others.code saved))
 
 -- Runs of a row
 
@@ -390,7 +390,7 @@ grid_good : (keeps : Bool) (code : List Insn) (rows : List (ℕ → Question)) (
     → IsThere (Rests keeps code) code (lay rows columns exit.falls exit.skip []).code exit place
     → Keeps keeps (lay rows columns exit.falls exit.skip []).code → GridGood keeps code (lay rows columns exit.falls exit.skip []) place exit.end
 unfolding lay_rows
-grid_good keeps code [] columns exit place sound there kept =
+grid_good keeps code [] columns exit place sound there saved =
     let yes = question_code (Decided true) exit.falls exit.skip in
     let count = word_count-append yes [] in
     let is : place + word_count (yes ++ []) ≡ exit.end = there.ends.is in
@@ -409,12 +409,12 @@ grid_good keeps code [] columns exit place sound there kept =
       stand = stand_same (Rests keeps code) exit.end (word_count (yes ++ [])) (word_count (yes ++ [])) columns (omega arith)
           (subst (Rests keeps code) (sym here) rests);
     }
-grid_good keeps code (row ∷ rows) columns exit place sound there kept =
+grid_good keeps code (row ∷ rows) columns exit place sound there saved =
     let rest = lay rows columns exit.falls exit.skip [] in
     let past = first_skip exit.falls true (word_count rest.code - word_count []) exit.skip in
     let below = below_row (Rests keeps code) code row rest.starts past rest exit place there in
     let front = row_ends row 0 rest.starts past rest.code in
-    let keeps_rest = keeps_back keeps front.front rest.code (subst (Keeps keeps) front.is kept) in
+    let keeps_rest = keeps_back keeps front.front rest.code (subst (Keeps keeps) front.is saved) in
     let others = grid_good keeps code rows columns exit below.middle sound.1
     (record { ends = below.ends; last = there.last; target = there.target }) keeps_rest in
     let cells = subst (SoundCells row 0) (sym (starts_count rows columns exit.falls exit.skip)) sound.0 in
@@ -431,7 +431,7 @@ grid_good keeps code (row ∷ rows) columns exit place sound there kept =
       last = there.last;
       good = others.good;
     } in
-    record { good = row_good r good 0 rest.starts place cells others.stand there.ends kept; stand = row_stands r ground 0 rest.starts place cells there.ends }
+    record { good = row_good r good 0 rest.starts place cells others.stand there.ends saved; stand = row_stands r ground 0 rest.starts place cells there.ends }
 
 -- a run takes the exit for the grid's answer
 
@@ -511,10 +511,10 @@ grid_leads keeps on exit (row ∷ rows) columns place sound segment there =
 pub grid_sound : (rows : List (ℕ → Question)) (columns : ℕ) → SoundRows rows columns → IsSoundBlock (grid rows columns)
 grid_sound rows columns sound = record {
   needs = λ keeps falls skip. grid_needs keeps rows columns falls skip sound;
-  good = λ keeps code falls skip place kept settled.
+  good = λ keeps code falls skip place saved settled.
       let exit : Exit = record { falls = falls; end = place + word_count (lay rows columns falls skip []).code; skip = skip } in
       (grid_good keeps code rows columns exit place sound
-      (record { ends = record { has = settled.has; is = refl }; last = settled.end; target = settled.target }) kept).good;
+      (record { ends = record { has = settled.has; is = refl }; last = settled.end; target = settled.target }) saved).good;
   leads = λ on falls skip place segment placed.
       let exit : Exit = record { falls = falls; end = place + word_count (lay rows columns falls skip []).code; skip = skip } in
       (grid_leads false on exit rows columns place sound segment

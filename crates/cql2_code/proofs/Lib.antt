@@ -30,8 +30,6 @@ pub mod FunctionLemmas
 pub mod Good
 pub mod GridLemmas
 pub mod JoinLemmas
-pub mod Kept
-pub mod KeptSteps
 pub mod Laying
 pub mod Leads
 pub mod LikeLemmas
@@ -47,13 +45,16 @@ pub mod PairLemmas
 pub mod PartLemmas
 pub mod PartsWritten
 pub mod Passes
-pub mod PieceLemmas
 pub mod PatternLemmas
+pub mod PieceLemmas
 pub mod Program
 pub mod Proper
 pub mod RangeLemmas
 pub mod Refused
+pub mod RequiredLemmas
 pub mod Runs
+pub mod Saved
+pub mod SavedSteps
 pub mod SearchLemmas
 pub mod SecondOperands
 pub mod ShapeBlocks
@@ -74,7 +75,6 @@ pub mod TextColumnLemmas
 pub mod TextColumnParts
 pub mod TextLemmas
 pub mod TrimLemmas
-pub mod WantedLemmas
 pub mod Whole
 pub mod WithinLemmas
 pub mod WithinMarks

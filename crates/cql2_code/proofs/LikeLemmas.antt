@@ -12,8 +12,8 @@ use Rattle.cql2.specs.Truth.{is as is_truth}
 use Rattle.cql2.specs.declared.column.TextColumn.{TextColumn}
 use Rattle.cql2.specs.declared.pattern.PatternPart.{PatternPart}
 use Rattle.cql2_code.specs.Grid.{finds, grid}
-use Rattle.cql2_code.specs.Lowering.{are_pieces, are_wanted, asks_like, if_asked, is_like, rows_of}
-use Rattle.cql2_code.specs.Pieces.{pieces_of, taken}
+use Rattle.cql2_code.specs.Lowering.{are_pieces, are_required, asks_like, if_asked, is_like, rows_of}
+use Rattle.cql2_code.specs.Pieces.{least_length, pieces_of}
 use Rattle.cql2_code.specs.Question.{Coded, Decided, Joined, answer}
 use Rattle.cql2_code.specs.declared.field.Field.{Field}
 use Rattle.cql2_code.proofs.FieldLemmas.{IsInside, bytes_in, field_long, has_text}
@@ -23,11 +23,11 @@ use Rattle.cql2_code.proofs.SearchLemmas.{begins_so, begins_wants, blank_drop, l
 use Rattle.cql2_code.proofs.SearchLemmas.{wants_begins}
 use Rattle.cql2_code.proofs.TextColumnLemmas.{about_found, value_asked}
 use Rattle.cql2_code.proofs.TrimLemmas.{trimmed, trimmed_blank}
-use Rattle.cql2_code.proofs.WantedLemmas.{ending, ends_found, piece_found, taken_piece, wanted_here}
+use Rattle.cql2_code.proofs.RequiredLemmas.{ending, ends_found, piece_found, taken_piece, required_here}
 
 -- Pieces that have a part
 
-taken_respelled : (pieces : List (List PatternPart)) (is_open : Bool) → ArePieces pieces → taken (respelled pieces is_open) ≡ lengths pieces
+taken_respelled : (pieces : List (List PatternPart)) (is_open : Bool) → ArePieces pieces → least_length (respelled pieces is_open) ≡ lengths pieces
 taken_respelled [] true are = refl
 taken_respelled [] false are = refl
 taken_respelled (piece ∷ pieces) is_open are =
@@ -94,11 +94,11 @@ module _ (segment : SegmentParts) (is : IsSegment segment) (field : Field) (lies
       let some = filled.some in
       let first = first_of (from + at) (omega arith) in
       let step : from + (at + 1) ≡ from + at + 1 = omega arith in
-      let behind : from + length piece + at ≡ from + at + length piece = omega arith in
-      let here = wanted_here segment is field lies (from + at) piece (record { within = omega arith; are = filled.are })
+      let following : from + length piece + at ≡ from + at + length piece = omega arith in
+      let here = required_here segment is field lies (from + at) piece (record { within = omega arith; are = filled.are })
       ∙ ap (wants piece) first in
       let below = found next pieces (from + length piece) at (suc left) are.0 are.1 (omega arith)
-      ∙ ap (λ (n : ℕ). like (respelled (next ∷ pieces) is_open) (drop n (bytes_in field segment))) behind
+      ∙ ap (λ (n : ℕ). like (respelled (next ∷ pieces) is_open) (drop n (bytes_in field segment))) following
       ∙ sym (ap (like (respelled (next ∷ pieces) is_open)) (drop-drop (length piece) (from + at) (bytes_in field segment)))
       ∙ ap (λ (bytes : List ℕ). like (respelled (next ∷ pieces) is_open) (drop (length piece) bytes)) first in
       let later = found piece (next ∷ pieces) from (at + 1) left filled are (omega arith)
@@ -110,9 +110,9 @@ module _ (segment : SegmentParts) (is : IsSegment segment) (field : Field) (lies
 
 -- Patterns
 
-matches_all : (blank wanted so more : Bool) → (so ≡ true → wanted ≡ true) → (wanted ≡ true → more ≡ true → so ≡ true)
-    → (more ≡ true → blank ≡ false) → (wanted && more) ≡ (not blank && (so && more))
-matches_all true wanted so true one two three = absurd (false≢true (sym (three refl)))
+matches_all : (blank required so more : Bool) → (so ≡ true → required ≡ true) → (required ≡ true → more ≡ true → so ≡ true)
+    → (more ≡ true → blank ≡ false) → (required && more) ≡ (not blank && (so && more))
+matches_all true required so true one two three = absurd (false≢true (sym (three refl)))
 matches_all true true so false one two three = refl
 matches_all true false so false one two three = refl
 matches_all false true true more one two three = refl
@@ -128,7 +128,7 @@ module _ (segment : SegmentParts) (is : IsSegment segment) (field : Field) (lies
       ≡ has_text (is_text_like pattern) (bytes_in field segment)
   pieces_match first piece others is_open cut =
       matches_all (are_blank bytes) (wants first bytes) (begins_so first bytes) (like rest (drop (length first) bytes))
-      (begins_wants first bytes) (λ wanted more. wants_begins first bytes wanted (behind more)) filled
+      (begins_wants first bytes) (λ required more. wants_begins first bytes required (following more)) filled
       ∙ sym (ap (λ (like : Bool). not (are_blank bytes) && like)
       (cut.matches (trimmed bytes) ∙ like_piece first (piece ++ respelled others is_open) bytes cut.first_is))
     where
@@ -138,47 +138,47 @@ module _ (segment : SegmentParts) (is : IsSegment segment) (field : Field) (lies
       rest : List PatternPart
       rest = respelled (piece ∷ others) is_open
 
-      behind : like rest (drop (length first) bytes) ≡ true → are_blank (drop (length first) bytes) ≡ false
-      behind more = some_text rest (drop (length first) bytes) (none_respelled piece others is_open cut.others_are.0) more
+      following : like rest (drop (length first) bytes) ≡ true → are_blank (drop (length first) bytes) ≡ false
+      following more = some_text rest (drop (length first) bytes) (none_respelled piece others is_open cut.others_are.0) more
 
       filled : like rest (drop (length first) bytes) ≡ true → are_blank bytes ≡ false
       filled more = by_blank (are_blank bytes) refl
         where
           by_blank : (blank : Bool) → are_blank bytes ≡ blank → blank ≡ false
-          by_blank true is = absurd (false≢true (sym (behind more) ∙ blank_drop (length first) bytes is))
+          by_blank true is = absurd (false≢true (sym (following more) ∙ blank_drop (length first) bytes is))
           by_blank false is = refl
 
   pieces_by : (first piece : List PatternPart) (others : List (List PatternPart)) (is_open short : Bool)
-      → nat_le (taken pattern) field.width ≡ short → Cut pattern first (piece ∷ others) is_open
-      → answer (if short then Joined true (are_wanted field.offset first)
-      (Coded (grid (rows_of field is_open (length first) (piece ∷ others)) (suc (field.width - taken pattern))))
+      → nat_le (least_length pattern) field.width ≡ short → Cut pattern first (piece ∷ others) is_open
+      → answer (if short then Joined true (are_required field.offset first)
+      (Coded (grid (rows_of field is_open (length first) (piece ∷ others)) (suc (field.width - least_length pattern))))
       else Decided false) segment ≡ has_text (is_text_like pattern) (bytes_in field segment)
   pieces_by first piece others is_open true short cut =
-      let few = leb-true (taken pattern) field.width short in
+      let few = leb-true (least_length pattern) field.width short in
       let takes = cut.takes in
       let start : field.offset ≡ field.offset + 0 = omega arith in
       let from : length first + 0 ≡ length first = omega arith in
       both_answers
-      (ap (λ (at : ℕ). answer (are_wanted at first) segment) start
-      ∙ wanted_here segment is field lies 0 first (record { within = omega arith; are = cut.first_is }))
-      (found segment is field lies is_open piece others (length first) 0 (suc (field.width - taken pattern)) cut.others_are.0
+      (ap (λ (at : ℕ). answer (are_required at first) segment) start
+      ∙ required_here segment is field lies 0 first (record { within = omega arith; are = cut.first_is }))
+      (found segment is field lies is_open piece others (length first) 0 (suc (field.width - least_length pattern)) cut.others_are.0
       cut.others_are.1 (omega arith)
       ∙ ap (λ (n : ℕ). like (respelled (piece ∷ others) is_open) (drop n (bytes_in field segment))) from)
       ∙ pieces_match first piece others is_open cut
   pieces_by first piece others is_open false short cut =
-      let many = leb-false (taken pattern) field.width short in
+      let many = leb-false (least_length pattern) field.width short in
       let long = field_long segment is field lies in
       let unlike = like_long pattern (bytes_in field segment) (omega arith) in
       sym (ap (λ (like : Bool). not (are_blank (bytes_in field segment)) && like) unlike
       ∙ and_false (not (are_blank (bytes_in field segment))))
 
   pieces_found : (first : List PatternPart) (others : List (List PatternPart)) (is_open : Bool) → Cut pattern first others is_open
-      → answer (are_pieces field first others is_open (taken pattern)) segment ≡ has_text (is_text_like pattern) (bytes_in field segment)
+      → answer (are_pieces field first others is_open (least_length pattern)) segment ≡ has_text (is_text_like pattern) (bytes_in field segment)
   pieces_found first [] is_open cut =
       piece_found segment is field lies first cut.first_is is_open
       ∙ sym (ap (λ (like : Bool). not (are_blank (bytes_in field segment)) && like) (cut.matches (trimmed (bytes_in field segment))))
   pieces_found first (piece ∷ others) is_open cut =
-      pieces_by first piece others is_open (nat_le (taken pattern) field.width) refl cut
+      pieces_by first piece others is_open (nat_le (least_length pattern) field.width) refl cut
 
 module _ (segment : SegmentParts) (is : IsSegment segment) (field : Field) (lies : IsInside field) (pattern : List PatternPart)
     (are : are_bytes pattern ≡ true) where

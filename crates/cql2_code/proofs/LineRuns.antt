@@ -23,7 +23,7 @@ use Rattle.cql2_code.proofs.Calls.{answered, calls_coordinate}
 use Rattle.cql2_code.proofs.ColumnBounds.{IsUpTo, column_up_to}
 use Rattle.cql2_code.proofs.Columns.{coordinate_allowed}
 use Rattle.cql2_code.proofs.NumberLemmas.{word_read}
-use Rattle.cql2_code.proofs.KeptSteps.{copies_to_kept, with_kept}
+use Rattle.cql2_code.proofs.SavedSteps.{copies_to_saved, with_saved}
 use Rattle.cql2_code.proofs.ShapeHands.{Hand, filled}
 use Rattle.cql2_code.proofs.Steps.{with_1, Does, Runs, Scratch, Setting, changes, moves_1, no_more, one_more}
 use Rattle.cql2_code.proofs.Words.{word}
@@ -58,14 +58,14 @@ module _ (extent : Extent) (on : Setting) where
 
   module _ (from : Scratch) where
     abbrev first : Scratch
-    first = with_kept 0 (answered from (word (coordinate_at on.segment Frlong)) 0) (word (coordinate_at on.segment Frlong))
+    first = with_saved 0 (answered from (word (coordinate_at on.segment Frlong)) 0) (word (coordinate_at on.segment Frlong))
 
     abbrev second : Scratch
-    second = with_kept 1 (answered first (word (coordinate_at on.segment Frlat)) 0) (word (coordinate_at on.segment Frlat))
+    second = with_saved 1 (answered first (word (coordinate_at on.segment Frlat)) 0) (word (coordinate_at on.segment Frlat))
 
     abbrev third : Scratch
     third =
-        let longitude = word (coordinate_at on.segment (end_longitude extent)) in with_kept 2 (answered second longitude 0) longitude
+        let longitude = word (coordinate_at on.segment (end_longitude extent)) in with_saved 2 (answered second longitude 0) longitude
 
     abbrev pub fourth : Scratch
     fourth = answered third (word (coordinate_at on.segment (end_latitude extent))) 0
@@ -84,13 +84,13 @@ module _ (extent : Extent) (on : Setting) where
     line_runs =
         one_more (moves_1 on from 0)
         (one_more (reads from Frlong)
-        (one_more (copies_to_kept on 0 (answered from (word (coordinate_at on.segment Frlong)) 0) (word (coordinate_at on.segment Frlong)))
+        (one_more (copies_to_saved on 0 (answered from (word (coordinate_at on.segment Frlong)) 0) (word (coordinate_at on.segment Frlong)))
         (one_more (moves_1 on first 1)
         (one_more (reads first Frlat)
-        (one_more (copies_to_kept on 1 (answered first (word (coordinate_at on.segment Frlat)) 0) (word (coordinate_at on.segment Frlat)))
+        (one_more (copies_to_saved on 1 (answered first (word (coordinate_at on.segment Frlat)) 0) (word (coordinate_at on.segment Frlat)))
         (one_more (moves_1 on second (coordinate_id (end_longitude extent)))
         (one_more (reads second (end_longitude extent))
-        (one_more (copies_to_kept on 2 (answered second longitude 0) longitude)
+        (one_more (copies_to_saved on 2 (answered second longitude 0) longitude)
         (one_more (moves_1 on third (coordinate_id (end_latitude extent)))
         (one_more (reads third (end_latitude extent))
         (one_more set_1 (one_more set_5 (one_more set_3 (one_more set_4 (one_more set_2 no_more)))))))))))))))

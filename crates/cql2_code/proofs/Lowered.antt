@@ -19,7 +19,7 @@ use Rattle.cql2_code.proofs.JoinLemmas.{and_joins, asked_answers, joined_answers
 use Rattle.cql2_code.proofs.LikeLemmas.{asks_like_rightly}
 use Rattle.cql2_code.proofs.NumberLemmas.{compares_number_rightly, has_value_rightly, none_is}
 use Rattle.cql2_code.proofs.TextColumnLemmas.{column_null}
-use Rattle.cql2_code.proofs.TextLemmas.{compares_text_rightly, text_wanted}
+use Rattle.cql2_code.proofs.TextLemmas.{compares_text_rightly, text_required}
 
 null_rightly : (segment : SegmentParts) → IsSegment segment → (column : Column)
     → answer (is_null column) segment ≡ is_column_null column segment.bytes
@@ -46,7 +46,7 @@ asks_rightly segment is (CompareNumbers first comparison second) asked =
     (exact_bounded second.expression second.is_exact) comparison asked
 asks_rightly segment is (CompareTexts first comparison second) asked = compares_columns_rightly segment is first second comparison asked
 asks_rightly segment is (CompareText column comparison text) asked =
-    compares_text_rightly segment is column text.bytes.items (text_wanted text.bytes.items text.is_text) comparison asked
+    compares_text_rightly segment is column text.bytes.items (text_required text.bytes.items text.is_text) comparison asked
 asks_rightly segment is (Like column pattern) asked =
     asks_like_rightly segment is column pattern.parts.items pattern.are_bytes asked
 asks_rightly segment is (Function function) asked = function_rightly segment is function asked

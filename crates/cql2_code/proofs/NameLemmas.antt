@@ -1,4 +1,4 @@
--- Questions about names answer whether one of a segment's first names is the wanted one.
+-- Questions about names answer whether one of a segment's first names is the required one.
 use Rattle.std.proofs.Common.{◌≡◌, ℕ, zero, suc, ◌+◌, ◌-◌, ◌<◌, ◌≤◌, ◌^◌, ◌==◌, pos, nat_le, nat_lt, Bool, true, false, not, ◌&&◌}
 use Rattle.std.proofs.Common.{◌||◌, List, [], ◌∷◌, ◌++◌, length, take, drop, replicate, slice_get, All, Option, Some, None}
 use Rattle.std.proofs.Common.{if◌then◌else◌, refl, sym, ap, ◌∙◌, arith}
@@ -28,16 +28,16 @@ use Rattle.cql2_code.proofs.JoinLemmas.{and_assoc, both_answers}
 use Rattle.cql2_code.proofs.NumberLemmas.{compared, small_fits}
 use Rattle.cql2_code.proofs.PartLemmas.{part_asked, passes}
 
--- Blanks after the wanted bytes make no difference
+-- Blanks after the required bytes make no difference
 
 lower_blank : (byte : ℕ) → (to_ascii_lowercase byte == 32) ≡ (byte == 32)
 lower_blank byte = grind (arith, nat_tests)
 
 -- a name equals a byte and more, by its first byte
-equals_more : (byte : ℕ) (name : List ℕ) (letter : ℕ) (wanted : List ℕ) → name_equals (byte ∷ name) (letter ∷ wanted)
-    ≡ (to_ascii_lowercase byte == to_ascii_lowercase letter && name_equals name wanted)
-equals_more byte name letter wanted = sym (and_assoc (to_ascii_lowercase byte == to_ascii_lowercase letter)
-    (str_eq_ignore_ascii_case (take (length wanted) name) wanted) (are_blank (drop (length wanted) name)))
+equals_more : (byte : ℕ) (name : List ℕ) (letter : ℕ) (required : List ℕ) → name_equals (byte ∷ name) (letter ∷ required)
+    ≡ (to_ascii_lowercase byte == to_ascii_lowercase letter && name_equals name required)
+equals_more byte name letter required = sym (and_assoc (to_ascii_lowercase byte == to_ascii_lowercase letter)
+    (str_eq_ignore_ascii_case (take (length required) name) required) (are_blank (drop (length required) name)))
 
 blanks_equal : (name : List ℕ) (count : ℕ) → length name ≡ count → name_equals name (replicate count 32) ≡ are_blank name
 blanks_equal [] zero long = refl
@@ -90,14 +90,14 @@ truth_compared : (equal : Bool) → condition_holds (condition_of NotEqual) Bits
 truth_compared true = refl
 truth_compared false = refl
 
-name_found : (wanted : List ℕ) (name : Option (List ℕ)) → is_name wanted name ≡ passes (λ name. name_equals name wanted) name
-name_found wanted None = refl
-name_found wanted (Some name) = refl
+name_found : (required : List ℕ) (name : Option (List ℕ)) → is_name required name ≡ passes (λ name. name_equals name required) name
+name_found required None = refl
+name_found required (Some name) = refl
 
 at_least_is_less : (m n : ℕ) → nat_le m n ≡ nat_lt m (suc n)
 at_least_is_less m n = grind (arith, nat_tests)
 
--- what a segment's names imply: one of them is the wanted one, and there are no more
+-- what a segment's names imply: one of them is the required one, and there are no more
 
 known_named : (found whole : Bool)
     → found ≡ is_truth (if found then Some true else (if whole then Some false else None)) true
@@ -123,19 +123,19 @@ module _ (segment : SegmentParts) (is : IsSegment segment) where
       compared GreaterOrEqual (pos (length segment.names)) (pos at) (small_fits _ (omega arith)) (small_fits at (omega arith))
       ∙ at_least_is_less at (length segment.names)
 
-  -- a name with this index or a later one is the wanted one
-  named_found : (wanted : List ℕ) (at more : ℕ) → at + more ≤ 2 ^ 62 → answer (is_named_from wanted at more) segment
-      ≡ list_any (λ name. name_equals name (take 30 wanted)) (take more (drop at (names_of segment)))
+  -- a name with this index or a later one is the required one
+  named_found : (required : List ℕ) (at more : ℕ) → at + more ≤ 2 ^ 62 → answer (is_named_from required at more) segment
+      ≡ list_any (λ name. name_equals name (take 30 required)) (take more (drop at (names_of segment)))
   unfolding is_named_from
-  named_found wanted at zero small = refl
-  named_found wanted at (suc more) small =
-      part_asked (λ name. name_equals name (take 30 wanted)) (names_of segment) at more segment (record {
+  named_found required at zero small = refl
+  named_found required at (suc more) small =
+      part_asked (λ name. name_equals name (take 30 required)) (names_of segment) at more segment (record {
         inside = test Names GreaterOrEqual (pos at);
-        here = test (NameIs at wanted) NotEqual (pos 0);
-        rest = is_named_from wanted (at + 1) more;
+        here = test (NameIs at required) NotEqual (pos 0);
+        rest = is_named_from required (at + 1) more;
         inside_is = names_answer at (omega arith);
-        here_is = truth_compared _ ∙ name_found (take 30 wanted) (slice_get (names_of segment) at);
-        rest_is = named_found wanted (at + 1) more (omega arith);
+        here_is = truth_compared _ ∙ name_found (take 30 required) (slice_get (names_of segment) at);
+        rest_is = named_found required (at + 1) more (omega arith);
       }) (checks_for_end at)
 
   is_named_rightly : (text : List ℕ) (most : ℕ) → length text ≤ 30 → most < 2 ^ 16

@@ -21,10 +21,9 @@ use Rattle.cql2.specs.Column.{coordinate_places, number_places, numeric_value, u
 use Rattle.cql2.specs.Filter.{compares}
 use Rattle.cql2.specs.Truth.{is}
 use Rattle.cql2.specs.declared.column.CoordinateColumn.{CoordinateColumn}
-use Rattle.cql2.specs.declared.column.CoordinateColumn.TheVariants.{Frlong, Frlat, Tolong, Tolat}
+use Rattle.cql2.specs.declared.column.CoordinateColumn.TheVariants.{Frlong}
 use Rattle.cql2.specs.declared.column.NumberColumn.{NumberColumn}
-use Rattle.cql2.specs.declared.column.NumberColumn.TheVariants.{Tlid, Fraddl, Toaddl, Fraddr, Toaddr, Zipl, Zipr, Statel, Stater}
-use Rattle.cql2.specs.declared.column.NumberColumn.TheVariants.{Countyl, Countyr, Placel, Placer, Tractl, Tractr, Blockl, Blockr}
+use Rattle.cql2.specs.declared.column.NumberColumn.TheVariants.{Tlid}
 use Rattle.cql2.specs.declared.column.NumericColumn.{NumericColumn}
 use Rattle.cql2.specs.declared.column.NumericColumn.TheVariants.{Number, Coordinate}
 use Rattle.cql2.specs.declared.filter.Comparison.{Comparison}
@@ -97,29 +96,12 @@ opposite_compares GreaterOrEqual x y = int_less x y
 number_read : (column : NumberColumn) (line : List ℕ)
     → field_number line (field_id column) ≡ number_of (field_at (number_places column) line)
 number_read Tlid line = refl
-number_read Fraddl line = refl
-number_read Toaddl line = refl
-number_read Fraddr line = refl
-number_read Toaddr line = refl
-number_read Zipl line = refl
-number_read Zipr line = refl
-number_read Statel line = refl
-number_read Stater line = refl
-number_read Countyl line = refl
-number_read Countyr line = refl
-number_read Placel line = refl
-number_read Placer line = refl
-number_read Tractl line = refl
-number_read Tractr line = refl
-number_read Blockl line = refl
-number_read Blockr line = refl
+number_read column line = refl
 
 coordinate_read : (column : CoordinateColumn) (line : List ℕ)
     → coordinate line (coordinate_id column) ≡ coordinate_word (coordinate_of (field_at (coordinate_places column) line))
 coordinate_read Frlong line = refl
-coordinate_read Frlat line = refl
-coordinate_read Tolong line = refl
-coordinate_read Tolat line = refl
+coordinate_read column line = refl
 
 word_of_number : (found : Option ℕ) → or_zero found ≡ coordinate_word (option_map pos found)
 word_of_number None = refl

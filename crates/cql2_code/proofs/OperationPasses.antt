@@ -22,8 +22,8 @@ use Rattle.bpf_verify.specs.LiftedState.{Unreached}
 use Rattle.bpf_verify.specs.Transfer.{transfer}
 use Rattle.cql2.specs.declared.expression.Operator.{Operator}
 use Rattle.cql2.specs.declared.expression.Operator.TheVariants.{Add, Subtract, Multiply, Divide, Remainder}
-use Rattle.cql2_code.specs.Expressions.{operate, operation_of, set_literal, combine_kept, combine_literal}
-use Rattle.cql2_code.specs.Layout.{copy, from_argument_1, from_kept, from_result, into_argument_1, into_kept, into_result, is_narrow, move, wide_load}
+use Rattle.cql2_code.specs.Expressions.{operate, operation_of, set_literal, combine_saved, combine_literal}
+use Rattle.cql2_code.specs.Layout.{copy, from_argument_1, from_saved, from_result, into_argument_1, into_saved, into_result, is_narrow, move, wide_load}
 use Rattle.cql2_code.proofs.AbstractState.{Held, KnowsMore, answered, any_number, before, compared, forgets, given_any, knowing}
 use Rattle.cql2_code.proofs.AbstractState.{nothing, resting}
 use Rattle.cql2_code.proofs.Operands.{operand_fits, wide_is}
@@ -181,24 +181,24 @@ module _ (keeps : Bool) where
         frame = maps.reflexive map.unwritten;
       })
 
-  pub before_keeping : (level : ℕ) → before keeps (copy (into_kept level) from_result) ≡ answered keeps
+  pub before_keeping : (level : ℕ) → before keeps (copy (into_saved level) from_result) ≡ answered keeps
   before_keeping zero = refl
   before_keeping (suc zero) = refl
   before_keeping (suc (suc level)) = refl
 
--- a program that keeps numbers may keep register 0, and read a number that it kept
+-- a program that keeps numbers may keep register 0, and read a number that it saved
 
 keeping_transfers : (level : ℕ) → (let held : Held = record nothing { v0 = any_number } in
-    transfer (before true (copy (into_kept level) from_result)) (copy (into_kept level) from_result)
+    transfer (before true (copy (into_saved level) from_result)) (copy (into_saved level) from_result)
     ≡ Ok (record { next = knowing true held; target = Unreached }))
 keeping_transfers zero = refl
 keeping_transfers (suc zero) = refl
 keeping_transfers (suc (suc level)) = refl
 
-pub keeping_passes : (level : ℕ) → Passes true (copy (into_kept level) from_result) (resting true)
+pub keeping_passes : (level : ℕ) → Passes true (copy (into_saved level) from_result) (resting true)
 keeping_passes level =
     let held : Held = record nothing { v0 = any_number } in
-    passes true (copy (into_kept level) from_result) held nothing (keeping_transfers level) refl (forgets held)
+    passes true (copy (into_saved level) from_result) held nothing (keeping_transfers level) refl (forgets held)
 
 both_known : KnowsMore (record nothing { v0 = any_number; v1 = any_number }) (record nothing { v0 = any_number; v1 = any_number })
 both_known = record {
@@ -209,23 +209,23 @@ both_known = record {
   frame = maps.reflexive map.unwritten;
 }
 
-reading_passes : (level : ℕ) → Passes true (copy into_result (from_kept level)) (compared true)
-reading_passes zero = passes true (copy into_result (from_kept 0)) _ (record nothing { v0 = any_number; v1 = any_number }) refl refl both_known
+reading_passes : (level : ℕ) → Passes true (copy into_result (from_saved level)) (compared true)
+reading_passes zero = passes true (copy into_result (from_saved 0)) _ (record nothing { v0 = any_number; v1 = any_number }) refl refl both_known
 reading_passes (suc zero) =
-    passes true (copy into_result (from_kept 1)) _ (record nothing { v0 = any_number; v1 = any_number }) refl refl both_known
+    passes true (copy into_result (from_saved 1)) _ (record nothing { v0 = any_number; v1 = any_number }) refl refl both_known
 reading_passes (suc (suc level)) =
-    passes true (copy into_result (from_kept 2)) _ (record nothing { v0 = any_number; v1 = any_number }) refl refl both_known
+    passes true (copy into_result (from_saved 2)) _ (record nothing { v0 = any_number; v1 = any_number }) refl refl both_known
 
-before_reading : (level : ℕ) → before true (copy into_result (from_kept level)) ≡ given_any true
+before_reading : (level : ℕ) → before true (copy into_result (from_saved level)) ≡ given_any true
 before_reading zero = refl
 before_reading (suc zero) = refl
 before_reading (suc (suc level)) = refl
 
-pub kept_passes : (operator : Operator) (level : ℕ) → AllPass true (combine_kept operator level) (answered true)
-kept_passes operator level = (
+pub saved_passes : (operator : Operator) (level : ℕ) → AllPass true (combine_saved operator level) (answered true)
+saved_passes operator level = (
   subst (Passes true (copy into_argument_1 from_result)) (sym (before_reading level)) (passes_copy_0 true),
   (
-    subst (Passes true (copy into_result (from_kept level))) (sym (before_register true operator)) (reading_passes level),
+    subst (Passes true (copy into_result (from_saved level))) (sym (before_register true operator)) (reading_passes level),
     (register_passes true operator, tt),
   ),
 )

@@ -13,28 +13,28 @@ use Rattle.bpf_meaning.specs.declared.effect.Change.TheVariants.{SetRegister}
 use Rattle.cql2.specs.declared.expression.Operator.{Operator}
 use Rattle.cql2.specs.declared.expression.Operator.TheVariants.{Add, Subtract, Multiply, Divide, Remainder}
 use Rattle.cql2_code.specs.Expressions.{operate, operation_of, set_literal, combine_literal}
-use Rattle.cql2_code.specs.Layout.{copy, from_argument_1, from_kept, into_argument_1, into_result, is_narrow, move, wide_load}
+use Rattle.cql2_code.specs.Layout.{copy, from_argument_1, from_saved, into_argument_1, into_result, is_narrow, move, wide_load}
 use Rattle.cql2_code.proofs.Operands.{operand_fits, wide_is}
 use Rattle.cql2_code.proofs.Steps.{with_0, with_1, Does, Runs, Scratch, Setting, changes, loads_wide_1, no_more, one_more}
 
--- what is kept at a level
-abbrev pub kept_at : ℕ → Scratch → Value
-kept_at zero scratch = scratch.v7
-kept_at (suc zero) scratch = scratch.v8
-kept_at (suc (suc level)) scratch = scratch.v9
+-- what is saved at a level
+abbrev pub saved_at : ℕ → Scratch → Value
+saved_at zero scratch = scratch.v7
+saved_at (suc zero) scratch = scratch.v8
+saved_at (suc (suc level)) scratch = scratch.v9
 
 module _ (on : Setting) where
-  -- a number that was kept is read
-  pub reads_kept : (level : ℕ) (from : Scratch) (number : ℕ) → kept_at level from ≡ value.Number number
-      → Does on (copy into_result (from_kept level)) from (with_0 from number)
-  reads_kept zero from number is =
-      changes on (copy into_result (from_kept 0)) (SetRegister into_result (value.Number number)) from (with_0 from number)
+  -- a number that was saved is read
+  pub reads_saved : (level : ℕ) (from : Scratch) (number : ℕ) → saved_at level from ≡ value.Number number
+      → Does on (copy into_result (from_saved level)) from (with_0 from number)
+  reads_saved zero from number is =
+      changes on (copy into_result (from_saved 0)) (SetRegister into_result (value.Number number)) from (with_0 from number)
       (λ place. rw is) (λ place next. refl)
-  reads_kept (suc zero) from number is =
-      changes on (copy into_result (from_kept 1)) (SetRegister into_result (value.Number number)) from (with_0 from number)
+  reads_saved (suc zero) from number is =
+      changes on (copy into_result (from_saved 1)) (SetRegister into_result (value.Number number)) from (with_0 from number)
       (λ place. rw is) (λ place next. refl)
-  reads_kept (suc (suc level)) from number is =
-      changes on (copy into_result (from_kept 2)) (SetRegister into_result (value.Number number)) from (with_0 from number)
+  reads_saved (suc (suc level)) from number is =
+      changes on (copy into_result (from_saved 2)) (SetRegister into_result (value.Number number)) from (with_0 from number)
       (λ place. rw is) (λ place next. refl)
 
   -- registers 0 and 1 are combined

@@ -18,11 +18,11 @@ use Rattle.cql2_code.proofs.ByteLemmas.{byte_read}
 use Rattle.cql2_code.proofs.ExpressionLemmas.{zero_compares}
 use Rattle.cql2_code.proofs.ExpressionPasses.{combined_passes}
 use Rattle.cql2_code.proofs.ExpressionRuns.{Computes, combined_runs}
-use Rattle.cql2_code.proofs.KeptSteps.{with_kept}
+use Rattle.cql2_code.proofs.SavedSteps.{with_saved}
 use Rattle.cql2_code.proofs.Loads.{loads}
 use Rattle.cql2_code.proofs.NumberLemmas.{small_fits}
 use Rattle.cql2_code.proofs.Passes.{all_pass-append, subject_passes}
-use Rattle.cql2_code.proofs.SecondOperands.{kept_code_of}
+use Rattle.cql2_code.proofs.SecondOperands.{saved_code_of}
 use Rattle.cql2_code.proofs.Steps.{with_0, Scratch, Setting, and_then, no_more, one_more}
 use Rattle.cql2_code.proofs.WordLemmas.{IsWord, abs_subtract, difference_compares, fits_by, subtract_is, written}
 use Rattle.cql2_code.proofs.ZeroBlocks.{IsSoundCode, zero_sound}
@@ -37,21 +37,21 @@ load_computes on at level from within segment = record {
 
 -- the code of the second byte
 abbrev back_of : ℕ → List Insn
-back_of other = kept_code_of Subtract 0 (subject_code (Load Byte other))
+back_of other = saved_code_of Subtract 0 (subject_code (Load Byte other))
 
 pair_sound_code : (at other : ℕ) → at < 228 → other < 228 → IsSoundCode (pair_code at other) (pair_word at other)
 pair_sound_code at other within inside = record {
   rests = λ keeps. refl;
-  passes = λ keeps kept.
+  passes = λ keeps saved.
       all_pass-append keeps (subject_code (Load Byte at)) (back_of other) (answered keeps)
       (subject_passes keeps (Load Byte at) (omega arith))
       (combined_passes keeps Subtract 0 (subject_code (Load Byte other)) refl (λ inner. subject_passes keeps (Load Byte other) (omega arith))
-      (keeps_back keeps (subject_code (Load Byte at)) (back_of other) kept));
+      (keeps_back keeps (subject_code (Load Byte at)) (back_of other) saved));
   runs = λ on segment from.
       let x = value (Load Byte at) on.segment in
       let first = load_computes on at 0 from within segment in
       let both = combined_runs on Subtract 0 (subject_code (Load Byte other)) first.to x (value (Load Byte other) on.segment)
-      (load_computes on other 1 (with_kept 0 (with_0 first.to x) x) inside segment) (omega arith) in
+      (load_computes on other 1 (with_saved 0 (with_0 first.to x) x) inside segment) (omega arith) in
       record { to = both.to; runs = and_then first.runs both.runs; keeps = λ lower below. absurd (omega arith) };
 }
 

@@ -18,9 +18,9 @@ pub lies_from-none : (house at : ℕ) → lies_from house at 0 ≡ Decided false
 unfolding lies_from
 lies_from-none house at = refl
 
-pub is_named_from-none : (wanted : List ℕ) (at : ℕ) → is_named_from wanted at 0 ≡ Decided false
+pub is_named_from-none : (required : List ℕ) (at : ℕ) → is_named_from required at 0 ≡ Decided false
 unfolding is_named_from
-is_named_from-none wanted at = refl
+is_named_from-none required at = refl
 
 -- the house number lies on the first range or on a later one
 abbrev pub lies_here : ℕ → ℕ → ℕ → Question
@@ -35,19 +35,19 @@ pub lies_from-milestone : (house at more : ℕ) → checks_for_end at ≡ true
 unfolding lies_from
 lies_from-milestone house at more there = rw there refl
 
--- the first name or a later one is the wanted one
+-- the first name or a later one is the required one
 abbrev pub is_named_here : List ℕ → ℕ → ℕ → Question
-is_named_here wanted at more = Joined false (test (NameIs at wanted) NotEqual (pos 0)) (is_named_from wanted (at + 1) more)
+is_named_here required at more = Joined false (test (NameIs at required) NotEqual (pos 0)) (is_named_from required (at + 1) more)
 
-pub is_named_from-more : (wanted : List ℕ) (at more : ℕ) → checks_for_end at ≡ false
-    → is_named_from wanted at (suc more) ≡ is_named_here wanted at more
+pub is_named_from-more : (required : List ℕ) (at more : ℕ) → checks_for_end at ≡ false
+    → is_named_from required at (suc more) ≡ is_named_here required at more
 unfolding is_named_from
-is_named_from-more wanted at more further = rw further refl
+is_named_from-more required at more further = rw further refl
 
-pub is_named_from-milestone : (wanted : List ℕ) (at more : ℕ) → checks_for_end at ≡ true
-    → is_named_from wanted at (suc more) ≡ Joined true (test Names GreaterOrEqual (pos at)) (is_named_here wanted at more)
+pub is_named_from-milestone : (required : List ℕ) (at more : ℕ) → checks_for_end at ≡ true
+    → is_named_from required at (suc more) ≡ Joined true (test Names GreaterOrEqual (pos at)) (is_named_here required at more)
 unfolding is_named_from
-is_named_from-milestone wanted at more there = rw there refl
+is_named_from-milestone required at more there = rw there refl
 
 -- the question from the first range on is refused if the question from a later one on is
 pub lies_from-here_refused : {exits : Exits} {old : List Insn} {fault : CompileFault} (house : ℕ) (at more : ℕ)
@@ -67,18 +67,18 @@ lies_from-refused house (suc at) more all is refused =
     lies_from-refused house at (suc more) all (omega arith) (lies_from-here_refused house at more (second_refused here))
 
 -- the question from the first name on is refused if the question from a later one on is
-pub is_named_from-here_refused : {exits : Exits} {old : List Insn} {fault : CompileFault} (wanted : List ℕ) (at more : ℕ)
-    → Refuses (is_named_here wanted at more) exits old fault → Refuses (is_named_from wanted at (suc more)) exits old fault
-is_named_from-here_refused wanted at more refused = elim (cases_Bool (checks_for_end at)) [
-  | inl there ↦ refuses_as (λ new written. written_as (sym (is_named_from-milestone wanted at more there)) written) (second_refused refused)
-  | inr further ↦ refuses_as (λ new written. written_as (sym (is_named_from-more wanted at more further)) written) refused
+pub is_named_from-here_refused : {exits : Exits} {old : List Insn} {fault : CompileFault} (required : List ℕ) (at more : ℕ)
+    → Refuses (is_named_here required at more) exits old fault → Refuses (is_named_from required at (suc more)) exits old fault
+is_named_from-here_refused required at more refused = elim (cases_Bool (checks_for_end at)) [
+  | inl there ↦ refuses_as (λ new written. written_as (sym (is_named_from-milestone required at more there)) written) (second_refused refused)
+  | inr further ↦ refuses_as (λ new written. written_as (sym (is_named_from-more required at more further)) written) refused
 ]
 
-pub is_named_from-refused : {exits : Exits} {old : List Insn} {fault : CompileFault} (wanted : List ℕ) (at more all : ℕ) → all ≡ at + more
-    → Refuses (is_named_from wanted at more) exits old fault → Refuses (is_named_from wanted 0 all) exits old fault
-is_named_from-refused wanted zero more all is refused =
-    let same : more ≡ all = omega arith in refuses_as (λ new written. written_as (ap (is_named_from wanted 0) same) written) refused
-is_named_from-refused wanted (suc at) more all is refused =
+pub is_named_from-refused : {exits : Exits} {old : List Insn} {fault : CompileFault} (required : List ℕ) (at more all : ℕ) → all ≡ at + more
+    → Refuses (is_named_from required at more) exits old fault → Refuses (is_named_from required 0 all) exits old fault
+is_named_from-refused required zero more all is refused =
+    let same : more ≡ all = omega arith in refuses_as (λ new written. written_as (ap (is_named_from required 0) same) written) refused
+is_named_from-refused required (suc at) more all is refused =
     let next : suc at ≡ at + 1 = omega arith in
-    let here = refuses_as (λ new written. written_as (ap (λ (n : ℕ). is_named_from wanted n more) next) written) refused in
-    is_named_from-refused wanted at (suc more) all (omega arith) (is_named_from-here_refused wanted at more (second_refused here))
+    let here = refuses_as (λ new written. written_as (ap (λ (n : ℕ). is_named_from required n more) next) written) refused in
+    is_named_from-refused required at (suc more) all (omega arith) (is_named_from-here_refused required at more (second_refused here))

@@ -215,20 +215,20 @@ module _ (keeps : Bool) where
 
   -- the stores of a name
 
-  store_passes : (wanted : List ℕ) → AllPass (store_name wanted) (named keeps 8)
-  store_passes wanted = (
-    exactly (store_word 0 wanted) (named keeps 1) refl refl,
+  store_passes : (required : List ℕ) → AllPass (store_name required) (named keeps 8)
+  store_passes required = (
+    exactly (store_word 0 required) (named keeps 1) refl refl,
     (
-      exactly (store_word 1 wanted) (named keeps 2) refl refl,
+      exactly (store_word 1 required) (named keeps 2) refl refl,
       (
-        exactly (store_word 2 wanted) (named keeps 3) refl refl,
+        exactly (store_word 2 required) (named keeps 3) refl refl,
         (
-          exactly (store_word 3 wanted) (named keeps 4) refl refl,
+          exactly (store_word 3 required) (named keeps 4) refl refl,
           (
-            exactly (store_word 4 wanted) (named keeps 5) refl refl,
+            exactly (store_word 4 required) (named keeps 5) refl refl,
             (
-              exactly (store_word 5 wanted) (named keeps 6) refl refl,
-              (exactly (store_word 6 wanted) (named keeps 7) refl refl, (exactly (store_word 7 wanted) (named keeps 8) refl refl, tt)),
+              exactly (store_word 5 required) (named keeps 6) refl refl,
+              (exactly (store_word 6 required) (named keeps 7) refl refl, (exactly (store_word 7 required) (named keeps 8) refl refl, tt)),
             ),
           ),
         ),
@@ -238,14 +238,14 @@ module _ (keeps : Bool) where
 
   -- codes
 
-  name_is_passes : (name : ℕ) (wanted : List ℕ) → name < 2 ^ 16 → AllPass (subject_code (subject.NameIs name wanted)) (answered keeps)
-  name_is_passes name wanted fits = (
+  name_is_passes : (name : ℕ) (required : List ℕ) → name < 2 ^ 16 → AllPass (subject_code (subject.NameIs name required)) (answered keeps)
+  name_is_passes name required fits = (
     passes_move_1 name (2 ^ 64 - 1) (omega arith),
     (
       passes_copy_10,
       (
         passes_move_to_name,
-        (passes_move_3, all_pass-append (store_name wanted) (call helper.NameIs ∷ []) (answered keeps) (store_passes wanted) (passes_name_is, tt)),
+        (passes_move_3, all_pass-append (store_name required) (call helper.NameIs ∷ []) (answered keeps) (store_passes required) (passes_name_is, tt)),
       ),
     ),
   )
@@ -264,7 +264,7 @@ module _ (keeps : Bool) where
         subst (Passes (move into_argument_1 (pos range))) (sym (before_set_number house)) (passes_move_1 range (2 ^ 64 - 1) (omega arith)),
         (passes_set_number house sound.1, (passes_in_range, tt)),
       )
-  subject_passes (subject.NameIs name wanted) sound = name_is_passes name wanted sound.0
+  subject_passes (subject.NameIs name required) sound = name_is_passes name required sound.0
   subject_passes (subject.Load chunk at) sound = (passes_load chunk at sound, tt)
 
   -- the code of a subject needs only the record's pointer
@@ -275,7 +275,7 @@ module _ (keeps : Bool) where
   subject_rests subject.Names = refl
   subject_rests subject.Ranges = refl
   subject_rests (subject.InRange range house) = refl
-  subject_rests (subject.NameIs name wanted) = refl
+  subject_rests (subject.NameIs name required) = refl
   subject_rests (subject.Load chunk at) = refl
 
   pub answer_passes : (number : ℕ) (needed : LiftedState) → number < 2 ^ 64 → AllPass (answer_code number) needed

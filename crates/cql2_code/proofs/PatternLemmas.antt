@@ -5,30 +5,30 @@ use Rattle.std.proofs.lemmas.Bool.{le-leb}
 use Rattle.std.proofs.lemmas.List.{drop_more, length-map}
 use Rattle.cql2.specs.declared.pattern.PatternPart.{PatternPart}
 use Rattle.cql2.specs.declared.pattern.PatternPart.TheVariants.{Exactly, Alike, One, Many}
-use Rattle.cql2_code.specs.Lowering.{both, ends_at, ends_filled, ends_so, exact_bytes, has_bytes, is_each_wanted, is_filled, is_piece}
-use Rattle.cql2_code.specs.Lowering.{is_wanted}
+use Rattle.cql2_code.specs.Lowering.{both, ends_at, ends_filled, ends_so, exact_bytes, has_bytes, is_each_required, is_filled, is_piece}
+use Rattle.cql2_code.specs.Lowering.{is_required}
 use Rattle.cql2_code.specs.Question.{Joined}
 use Rattle.cql2_code.specs.declared.field.Field.{Field}
-use Rattle.cql2_code.proofs.WantedLemmas.{Spells, spells}
+use Rattle.cql2_code.proofs.RequiredLemmas.{Spells, spells}
 
--- one wanted byte, and more
-pub is_each_wanted-more : (at : ℕ) (pattern : List PatternPart) (wanted : PatternPart) (rest : List PatternPart)
-    → pattern ≡ wanted ∷ rest → 0 < length rest
-    → is_each_wanted at pattern ≡ Joined true (is_wanted at wanted) (is_each_wanted (at + 1) rest)
-is_each_wanted-more at pattern wanted [] is some = absurd (omega arith)
-is_each_wanted-more at pattern wanted (next ∷ rest) is some = ap (is_each_wanted at) is
+-- one required byte, and more
+pub is_each_required-more : (at : ℕ) (pattern : List PatternPart) (required : PatternPart) (rest : List PatternPart)
+    → pattern ≡ required ∷ rest → 0 < length rest
+    → is_each_required at pattern ≡ Joined true (is_required at required) (is_each_required (at + 1) rest)
+is_each_required-more at pattern required [] is some = absurd (omega arith)
+is_each_required-more at pattern required (next ∷ rest) is some = ap (is_each_required at) is
 
--- the last wanted byte, if there is one, is not a blank
+-- the last required byte, if there is one, is not a blank
 abbrev pub is_last_filled : Option PatternPart → Bool
 is_last_filled None = false
-is_last_filled (Some wanted) = is_filled wanted
+is_last_filled (Some required) = is_filled required
 
 pub ends_filled-last : (pattern : List PatternPart) → ends_filled pattern ≡ is_last_filled (slice_get pattern (length pattern - 1))
 ends_filled-last [] = refl
-ends_filled-last (wanted ∷ []) = refl
-ends_filled-last (wanted ∷ next ∷ pattern) =
-    let place : suc (length (next ∷ pattern) - 1) ≡ length (wanted ∷ next ∷ pattern) - 1 = omega arith in
-    ends_filled-last (next ∷ pattern) ∙ ap (λ (n : ℕ). is_last_filled (slice_get (wanted ∷ next ∷ pattern) n)) place
+ends_filled-last (required ∷ []) = refl
+ends_filled-last (required ∷ next ∷ pattern) =
+    let place : suc (length (next ∷ pattern) - 1) ≡ length (required ∷ next ∷ pattern) - 1 = omega arith in
+    ends_filled-last (next ∷ pattern) ∙ ap (λ (n : ℕ). is_last_filled (slice_get (required ∷ next ∷ pattern) n)) place
 
 abbrev pub is_last_byte_filled : Option ℕ → Bool
 is_last_byte_filled None = false
@@ -51,9 +51,9 @@ exact_bytes-none : (front : List ℕ) (rest : List PatternPart) → exact_bytes 
 exact_bytes-none [] rest none = none
 exact_bytes-none (byte ∷ front) rest none = rw (exact_bytes-none front rest none) refl
 
-not_exact : (wanted : PatternPart) (rest : List PatternPart) → ((byte : ℕ) → wanted ≡ Exactly byte → ⊥) → exact_bytes (wanted ∷ rest) ≡ None
+not_exact : (required : PatternPart) (rest : List PatternPart) → ((byte : ℕ) → required ≡ Exactly byte → ⊥) → exact_bytes (required ∷ rest) ≡ None
 not_exact (Exactly byte) rest other = absurd (other byte refl)
-not_exact (Alike folding wanted) rest other = refl
+not_exact (Alike folding required) rest other = refl
 not_exact One rest other = refl
 not_exact Many rest other = refl
 

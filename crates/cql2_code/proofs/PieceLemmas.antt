@@ -8,35 +8,35 @@ use Rattle.cql2.specs.Folding.{is_alike}
 use Rattle.cql2.specs.Pattern.{are_bytes, is_byte, is_like, rests_of}
 use Rattle.cql2.specs.declared.pattern.PatternPart.{PatternPart}
 use Rattle.cql2.specs.declared.pattern.PatternPart.TheVariants.{Exactly, Alike, One, Many}
-use Rattle.cql2_code.specs.Pieces.{behind_many, pieces_of, taken}
+use Rattle.cql2_code.specs.Pieces.{following_many, least_length, pieces_of}
 use Rattle.cql2_code.proofs.TrimLemmas.{trimmed, trimmed_blank}
 
 -- Parts
 
 -- a part is not `%`
 abbrev pub is_single : PatternPart → Bool
-is_single (Exactly wanted) = true
-is_single (Alike folding wanted) = true
+is_single (Exactly required) = true
+is_single (Alike folding required) = true
 is_single One = true
 is_single Many = false
 
 -- a part takes a byte; `%` counts as `_` here
 abbrev pub takes : PatternPart → ℕ → Bool
-takes (Exactly wanted) byte = byte == wanted
-takes (Alike folding wanted) byte = is_alike folding byte wanted
+takes (Exactly required) byte = byte == required
+takes (Alike folding required) byte = is_alike folding byte required
 takes One byte = true
 takes Many byte = true
 
 pub like_part : (part : PatternPart) (pattern : List PatternPart) (byte : ℕ) (text : List ℕ) → is_single part ≡ true
     → is_like (part ∷ pattern) (byte ∷ text) ≡ (takes part byte && is_like pattern text)
-like_part (Exactly wanted) pattern byte text single = refl
-like_part (Alike folding wanted) pattern byte text single = refl
+like_part (Exactly required) pattern byte text single = refl
+like_part (Alike folding required) pattern byte text single = refl
 like_part One pattern byte text single = refl
 like_part Many pattern byte text single = absurd (false≢true single)
 
 pub like_none : (part : PatternPart) (pattern : List PatternPart) → is_single part ≡ true → is_like (part ∷ pattern) [] ≡ false
-like_none (Exactly wanted) pattern single = refl
-like_none (Alike folding wanted) pattern single = refl
+like_none (Exactly required) pattern single = refl
+like_none (Alike folding required) pattern single = refl
 like_none One pattern single = refl
 like_none Many pattern single = absurd (false≢true single)
 
@@ -114,7 +114,7 @@ respelled (piece ∷ pieces) is_open = Many ∷ (piece ++ respelled pieces is_op
 pub record Cut (pattern : List PatternPart) (first : List PatternPart) (others : List (List PatternPart)) (is_open : Bool) : Type 0 where
   pub first_is : IsPiece first
   pub others_are : ArePieces others
-  pub takes : taken pattern ≡ length first + lengths others
+  pub takes : least_length pattern ≡ length first + lengths others
   pub matches : (text : List ℕ) → is_like pattern text ≡ is_like (first ++ respelled others is_open) text
 
 like_many_twice : (pattern : List PatternPart) (text : List ℕ) → is_like (Many ∷ Many ∷ pattern) text ≡ is_like (Many ∷ pattern) text
@@ -135,7 +135,7 @@ any_same f g (text ∷ texts) same =
 
 -- `%` before a pattern in pieces
 cut_many : (pattern first : List PatternPart) (others : List (List PatternPart)) (is_open : Bool) → Cut pattern first others is_open
-    → (let cut = behind_many first others is_open in Cut (Many ∷ pattern) cut.first cut.others cut.is_open)
+    → (let cut = following_many first others is_open in Cut (Many ∷ pattern) cut.first cut.others cut.is_open)
 cut_many pattern [] [] true cut = record {
   first_is = tt;
   others_are = tt;
@@ -167,7 +167,7 @@ cut_many pattern (part ∷ piece) others is_open cut = record {
 
 -- another part before it
 cut_part : (part : PatternPart) (pattern first : List PatternPart) (others : List (List PatternPart)) (is_open : Bool) → IsSingle part
-    → taken (part ∷ pattern) ≡ suc (taken pattern)
+    → least_length (part ∷ pattern) ≡ suc (least_length pattern)
     → Cut pattern first others is_open → Cut (part ∷ pattern) (part ∷ first) others is_open
 cut_part part pattern first others is_open is more cut = record {
   first_is = (is, cut.first_is);
@@ -188,15 +188,15 @@ pub cut_pieces : (pattern : List PatternPart) → are_bytes pattern ≡ true
 cut_pieces [] are = record { first_is = tt; others_are = tt; takes = refl; matches = λ text. refl }
 cut_pieces (Many ∷ pattern) are =
     let pieces = pieces_of pattern in cut_many pattern pieces.first pieces.others pieces.is_open (cut_pieces pattern are)
-cut_pieces (Exactly wanted ∷ pattern) are =
-    let parts = and_parts (is_byte (Exactly wanted)) (are_bytes pattern) are in
+cut_pieces (Exactly required ∷ pattern) are =
+    let parts = and_parts (is_byte (Exactly required)) (are_bytes pattern) are in
     let pieces = pieces_of pattern in
-    cut_part (Exactly wanted) pattern pieces.first pieces.others pieces.is_open (record { single = refl; is_byte = parts.0 }) refl
+    cut_part (Exactly required) pattern pieces.first pieces.others pieces.is_open (record { single = refl; is_byte = parts.0 }) refl
     (cut_pieces pattern parts.1)
-cut_pieces (Alike folding wanted ∷ pattern) are =
-    let parts = and_parts (is_byte (Alike folding wanted)) (are_bytes pattern) are in
+cut_pieces (Alike folding required ∷ pattern) are =
+    let parts = and_parts (is_byte (Alike folding required)) (are_bytes pattern) are in
     let pieces = pieces_of pattern in
-    cut_part (Alike folding wanted) pattern pieces.first pieces.others pieces.is_open (record { single = refl; is_byte = parts.0 }) refl
+    cut_part (Alike folding required) pattern pieces.first pieces.others pieces.is_open (record { single = refl; is_byte = parts.0 }) refl
     (cut_pieces pattern parts.1)
 cut_pieces (One ∷ pattern) are =
     let pieces = pieces_of pattern in

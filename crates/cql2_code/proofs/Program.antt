@@ -6,7 +6,7 @@ use Rattle.bpf_insn.proofs.PlaceLemmas.{instruction_at-middle, word_count-append
 use Rattle.cql2.specs.declared.column.NumericColumn.{NumericColumn}
 use Rattle.cql2.specs.declared.column.NumericColumn.TheVariants as column
 use Rattle.std.specs.List.{list_any}
-use Rattle.cql2_code.specs.Layout.{answer_code, chosen_code, copy, from_argument_1, into_record, kept_code, program, question_code, writes_kept}
+use Rattle.cql2_code.specs.Layout.{answer_code, chosen_code, copy, from_argument_1, into_record, saved_code, program, question_code, writes_saved}
 use Rattle.cql2_code.specs.Question.{Question}
 use Rattle.cql2_code.proofs.Blocks.{Keeps, keeps_front}
 use Rattle.cql2_code.proofs.Leads.{IsAt}
@@ -46,13 +46,13 @@ module _ (score : Option NumericColumn) (question : Question) where
 
   -- whether the program keeps numbers in registers 7 to 9, its first instructions, and the place after them
   abbrev pub keeps_of : Bool
-  keeps_of = list_any writes_kept rest_of
+  keeps_of = list_any writes_saved rest_of
 
   abbrev pub front_of : List Insn
-  front_of = copy into_record from_argument_1 ∷ kept_code keeps_of
+  front_of = copy into_record from_argument_1 ∷ saved_code keeps_of
 
   abbrev pub start_of : ℕ
-  start_of = 1 + word_count (kept_code keeps_of)
+  start_of = 1 + word_count (saved_code keeps_of)
 
   pub keeps_middle : Keeps keeps_of middle_of
   keeps_middle = keeps_front keeps_of middle_of (chosen_code score ++ answer_code 0) (λ writes. writes)
@@ -61,7 +61,7 @@ module _ (score : Option NumericColumn) (question : Question) where
   has_first = has_front code_of 0 front_of rest_of (has_all code_of)
 
   pub has_middle : HasAt code_of start_of rest_of
-  has_middle = has_back code_of 1 (kept_code keeps_of) rest_of (has_all code_of).1
+  has_middle = has_back code_of 1 (saved_code keeps_of) rest_of (has_all code_of).1
 
   pub has_end : HasAt code_of (start_of + word_count middle_of) (chosen_code score ++ answer_code 0)
   has_end = has_back code_of start_of middle_of (chosen_code score ++ answer_code 0) has_middle

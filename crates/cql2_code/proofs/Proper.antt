@@ -25,7 +25,7 @@ use Rattle.bpf_verify.specs.LiftedState.{LiftedState, Reached, IsProper, entry}
 use Rattle.bpf_verify.proofs.PassLemmas.{entry_is_proper}
 use Rattle.cql2_code.proofs.AbstractState.{Held, annotation_of, answered, any_number, before, before_alu, before_call, before_compare, before_copy}
 use Rattle.cql2_code.proofs.AbstractState.{before_move, before_operation, before_wide_load, compared, frame_at, given, given_any, given_two}
-use Rattle.cql2_code.proofs.AbstractState.{kept, knowing, knowing_kept, named, nothing, pointed, registers_of, resting, setting_7, setting_8}
+use Rattle.cql2_code.proofs.AbstractState.{saved, knowing, knowing_saved, named, nothing, pointed, registers_of, resting, setting_7, setting_8}
 use Rattle.cql2_code.proofs.AbstractState.{Six, before_combination, before_jump, drawing, drawn, setting_2, setting_3, setting_4, six_numbers, six_registers}
 use Rattle.cql2_code.proofs.AbstractState.{setting_9, state_before, stored, up_to}
 
@@ -68,14 +68,14 @@ listed_proper (x ∷ xs) otherwise all rest zero = all.0
 listed_proper (x ∷ xs) otherwise all rest (suc at) = listed_proper xs otherwise all.1 rest at
 
 -- the states of registers 7 to 9 are proper, one by one
-record AreProperKept (a b c : Kind) : Type 0 where
+record AreProperSaved (a b c : Kind) : Type 0 where
   v7 : kind.IsProper a
   v8 : kind.IsProper b
   v9 : kind.IsProper c
 
-knowing_kept_proper : (a b c : Kind) (held : Held) → AreProperKept a b c → AreProper held → map.IsProper held.frame
-    → IsProper (knowing_kept (a ∷ b ∷ c ∷ []) held)
-knowing_kept_proper a b c held kept_proper proper frame = record { count = refl; kinds = each; frame = frame }
+knowing_saved_proper : (a b c : Kind) (held : Held) → AreProperSaved a b c → AreProper held → map.IsProper held.frame
+    → IsProper (knowing_saved (a ∷ b ∷ c ∷ []) held)
+knowing_saved_proper a b c held saved_proper proper frame = record { count = refl; kinds = each; frame = frame }
   where
     each : (register : ℕ) → kind.IsProper (get_or (registers_of (a ∷ b ∷ c ∷ []) held) register Nothing)
     each zero = proper.v0
@@ -85,32 +85,32 @@ knowing_kept_proper a b c held kept_proper proper frame = record { count = refl;
     each (suc (suc (suc (suc zero)))) = tt
     each (suc (suc (suc (suc (suc zero))))) = tt
     each (suc (suc (suc (suc (suc (suc zero)))))) = entry_is_proper.kinds 1
-    each (suc (suc (suc (suc (suc (suc (suc zero))))))) = kept_proper.v7
-    each (suc (suc (suc (suc (suc (suc (suc (suc zero)))))))) = kept_proper.v8
-    each (suc (suc (suc (suc (suc (suc (suc (suc (suc zero))))))))) = kept_proper.v9
+    each (suc (suc (suc (suc (suc (suc (suc zero))))))) = saved_proper.v7
+    each (suc (suc (suc (suc (suc (suc (suc (suc zero)))))))) = saved_proper.v8
+    each (suc (suc (suc (suc (suc (suc (suc (suc (suc zero))))))))) = saved_proper.v9
     each (suc (suc (suc (suc (suc (suc (suc (suc (suc (suc register)))))))))) =
         entry_is_proper.kinds (suc (suc (suc (suc (suc (suc (suc (suc (suc (suc register))))))))))
 
-kept_proper : (keeps : Bool) → kind.IsProper (kept keeps)
-kept_proper true = any_proper
-kept_proper false = tt
+saved_proper : (keeps : Bool) → kind.IsProper (saved keeps)
+saved_proper true = any_proper
+saved_proper false = tt
 
 all_nothing : AreProper nothing
 all_nothing = record { v0 = tt; v1 = tt; v2 = tt; v3 = tt }
 
 setting_7_proper : IsProper setting_7
-setting_7_proper = knowing_kept_proper _ _ _ nothing (record { v7 = tt; v8 = tt; v9 = tt }) all_nothing unwritten_is_proper
+setting_7_proper = knowing_saved_proper _ _ _ nothing (record { v7 = tt; v8 = tt; v9 = tt }) all_nothing unwritten_is_proper
 
 setting_8_proper : IsProper setting_8
-setting_8_proper = knowing_kept_proper _ _ _ nothing (record { v7 = any_proper; v8 = tt; v9 = tt }) all_nothing unwritten_is_proper
+setting_8_proper = knowing_saved_proper _ _ _ nothing (record { v7 = any_proper; v8 = tt; v9 = tt }) all_nothing unwritten_is_proper
 
 setting_9_proper : IsProper setting_9
-setting_9_proper = knowing_kept_proper _ _ _ nothing (record { v7 = any_proper; v8 = any_proper; v9 = tt }) all_nothing unwritten_is_proper
+setting_9_proper = knowing_saved_proper _ _ _ nothing (record { v7 = any_proper; v8 = any_proper; v9 = tt }) all_nothing unwritten_is_proper
 
 module _ (keeps : Bool) where
   knowing_proper : (held : Held) → AreProper held → map.IsProper held.frame → IsProper (knowing keeps held)
   knowing_proper held proper frame =
-      knowing_kept_proper (kept keeps) (kept keeps) (kept keeps) held (record { v7 = kept_proper keeps; v8 = kept_proper keeps; v9 = kept_proper keeps })
+      knowing_saved_proper (saved keeps) (saved keeps) (saved keeps) held (record { v7 = saved_proper keeps; v8 = saved_proper keeps; v9 = saved_proper keeps })
       proper frame
 
   resting_proper : IsProper (resting keeps)

@@ -6,8 +6,8 @@ use Rattle.std.specs.Prelude.{Err, IfErr, IsErrAnd, Ok, Result}
 use Rattle.bpf_insn.proofs.PlaceLemmas.{word_count-append}
 use Rattle.bpf_insn.specs.Code.{word_count}
 use Rattle.bpf_insn.specs.declared.instruction.Insn.{Insn}
-use Rattle.cql2_code.specs.Layout.{IsTooLong, MayBeRefused, Prepends, Refuses, Writes, begun, copy, first_skip, from_argument_1, into_record, kept_code}
-use Rattle.cql2_code.specs.Layout.{question_code, writes_kept}
+use Rattle.cql2_code.specs.Layout.{IsTooLong, MayBeRefused, Prepends, Refuses, Writes, begun, copy, first_skip, from_argument_1, into_record, saved_code}
+use Rattle.cql2_code.specs.Layout.{question_code, writes_saved}
 use Rattle.cql2_code.specs.Lowering.{PrependsBefore}
 use Rattle.cql2_code.specs.Question.{Joined, Question}
 use Rattle.cql2_code.specs.declared.fault.CompileFault.{CompileFault}
@@ -20,7 +20,7 @@ longer front {code} long = record { words = let many = long.words in let sum = w
 
 -- so is a program if the code after its first instructions is
 pub begun_longer : {code : List Insn} → IsTooLong code → IsTooLong (begun code)
-begun_longer {code} = longer (copy into_record from_argument_1 ∷ kept_code (list_any writes_kept code))
+begun_longer {code} = longer (copy into_record from_argument_1 ∷ saved_code (list_any writes_saved code))
 
 -- a question's code is refused if the identical code of another question is
 pub refuses_as : {question other : Question} {exits others : Exits} {old olds : List Insn} {fault : CompileFault}
@@ -67,5 +67,5 @@ second_refused_if neutral first false refused = refused
 pub prepends_before_refused : {second : Question} {exits : Exits} {old : List Insn} {fault : CompileFault} (result : Result Exits CompileFault)
     (new : List Insn) → IsErrAnd result (λ same. same ≡ fault) → Refuses second exits old fault → PrependsBefore result (Some second) exits old new
 prepends_before_refused {second} {exits} {old} (Err same) new is refused =
-    λ wanted. subst (Refuses (Joined true wanted second) exits old) (sym is) (second_refused refused)
+    λ required. subst (Refuses (Joined true required second) exits old) (sym is) (second_refused refused)
 prepends_before_refused (Ok none) new is refused = absurd is

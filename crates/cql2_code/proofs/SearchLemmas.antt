@@ -6,7 +6,7 @@ use Rattle.tl_fields.specs.Number.{is_blank as are_blank}
 use Rattle.cql2.specs.declared.pattern.PatternPart.{PatternPart}
 use Rattle.cql2.specs.declared.pattern.PatternPart.TheVariants.{Exactly, Alike, One, Many}
 use Rattle.cql2.specs.Pattern.{is_like}
-use Rattle.cql2_code.specs.Pieces.{taken}
+use Rattle.cql2_code.specs.Pieces.{least_length}
 use Rattle.cql2_code.proofs.PieceLemmas.{IsPiece, like, like_many_field, like_many_none, like_part_field, is_single, takes}
 use Rattle.cql2_code.proofs.TrimLemmas.{trimmed_blank}
 
@@ -41,10 +41,10 @@ not_blank false never = refl
 -- if the field isn't blank after the bytes, these are the text's
 pub wants_begins : (piece : List PatternPart) (field : List ℕ) → wants piece field ≡ true
     → are_blank (drop (length piece) field) ≡ false → begins_so piece field ≡ true
-wants_begins [] field wanted filled = refl
-wants_begins (part ∷ piece) [] wanted filled = absurd (false≢true wanted)
-wants_begins (part ∷ piece) (byte ∷ field) wanted filled =
-    let parts = and_parts (takes part byte) (wants piece field) wanted in
+wants_begins [] field required filled = refl
+wants_begins (part ∷ piece) [] required filled = absurd (false≢true required)
+wants_begins (part ∷ piece) (byte ∷ field) required filled =
+    let parts = and_parts (takes part byte) (wants piece field) required in
     let some = not_blank (are_blank (byte ∷ field)) (λ blank. false≢true (sym filled ∙ blank_drop (suc (length piece)) (byte ∷ field) blank)) in
     ap (λ (first : Bool). first && (takes part byte && begins_so piece field)) some
     ∙ ap (λ (first : Bool). first && begins_so piece field) parts.0 ∙ wants_begins piece field parts.1 filled
@@ -56,8 +56,8 @@ like_piece [] rest field are = refl
 like_piece (part ∷ piece) rest [] are = none part are.0.single
   where
     none : (part : PatternPart) → is_single part ≡ true → is_like (part ∷ (piece ++ Many ∷ rest)) [] ≡ false
-    none (Exactly wanted) single = refl
-    none (Alike folding wanted) single = refl
+    none (Exactly required) single = refl
+    none (Alike folding required) single = refl
     none One single = refl
     none Many single = absurd (false≢true single)
 like_piece (part ∷ piece) rest (byte ∷ field) are =
@@ -95,17 +95,17 @@ or_cases true b either first second = first refl
 or_cases false b either first second = second either
 
 -- what follows a piece that is found somewhere is found after the first place where the piece could be
-found_behind : (piece rest : List PatternPart) (field : List ℕ) → IsPiece piece → like (Many ∷ (piece ++ Many ∷ rest)) field ≡ true
+found_following : (piece rest : List PatternPart) (field : List ℕ) → IsPiece piece → like (Many ∷ (piece ++ Many ∷ rest)) field ≡ true
     → like (Many ∷ rest) (drop (length piece) field) ≡ true
-found_behind piece rest [] are found =
+found_following piece rest [] are found =
     (and_parts (begins_so piece []) (like (Many ∷ rest) (drop (length piece) []))
     (sym (like_piece piece rest [] are) ∙ sym (like_many_none (piece ++ Many ∷ rest)) ∙ found)).1
-found_behind piece rest (byte ∷ field) are found =
+found_following piece rest (byte ∷ field) are found =
     or_cases (like (piece ++ Many ∷ rest) (byte ∷ field)) (like (Many ∷ (piece ++ Many ∷ rest)) field)
     (sym (like_many_field (piece ++ Many ∷ rest) byte field) ∙ found)
     (λ here. (and_parts (begins_so piece (byte ∷ field)) (like (Many ∷ rest) (drop (length piece) (byte ∷ field)))
     (sym (like_piece piece rest (byte ∷ field) are) ∙ here)).1)
-    (λ later. earlier (length piece) rest byte field (found_behind piece rest field are later))
+    (λ later. earlier (length piece) rest byte field (found_following piece rest field are later))
 
 -- a pattern that doesn't match the empty text
 pub some_text : (rest : List PatternPart) (field : List ℕ) → is_like rest [] ≡ false → like rest field ≡ true → are_blank field ≡ false
@@ -115,7 +115,7 @@ some_text rest field none found = by_blank (are_blank field) refl
     by_blank true is = absurd (false≢true (sym none ∙ sym (ap (is_like rest) (trimmed_blank field is)) ∙ found))
     by_blank false is = refl
 
--- A piece that isn't the last one: if it is wanted here, the search goes on after it, and otherwise the search for it goes on.
+-- A piece that isn't the last one: if it matches here, the search goes on after it, and otherwise the search for it goes on.
 pub next_piece : (piece rest : List PatternPart) (byte : ℕ) (field : List ℕ) → IsPiece piece → is_like (Many ∷ rest) [] ≡ false
     → like (Many ∷ (piece ++ Many ∷ rest)) (byte ∷ field)
     ≡ (if wants piece (byte ∷ field) then like (Many ∷ rest) (drop (length piece) (byte ∷ field)) else like (Many ∷ (piece ++ Many ∷ rest)) field)
@@ -124,11 +124,11 @@ next_piece piece rest byte field are some =
     ∙ ap (λ (here : Bool). here || like (Many ∷ (piece ++ Many ∷ rest)) field) (like_piece piece rest (byte ∷ field) are)
     ∙ by_cases (wants piece (byte ∷ field)) (begins_so piece (byte ∷ field)) (like (Many ∷ rest) (drop (length piece) (byte ∷ field)))
     (like (Many ∷ (piece ++ Many ∷ rest)) field) (begins_wants piece (byte ∷ field))
-    (λ wanted more. wants_begins piece (byte ∷ field) wanted (some_text (Many ∷ rest) (drop (length piece) (byte ∷ field)) some more))
-    (λ later. earlier (length piece) rest byte field (found_behind piece rest field are later))
+    (λ required more. wants_begins piece (byte ∷ field) required (some_text (Many ∷ rest) (drop (length piece) (byte ∷ field)) some more))
+    (λ later. earlier (length piece) rest byte field (found_following piece rest field are later))
   where
-    by_cases : (wanted so more later : Bool) → (so ≡ true → wanted ≡ true) → (wanted ≡ true → more ≡ true → so ≡ true)
-        → (later ≡ true → more ≡ true) → (so && more || later) ≡ (if wanted then more else later)
+    by_cases : (required so more later : Bool) → (so ≡ true → required ≡ true) → (required ≡ true → more ≡ true → so ≡ true)
+        → (later ≡ true → more ≡ true) → (so && more || later) ≡ (if required then more else later)
     by_cases true true true later one two three = refl
     by_cases true false true later one two three = absurd (false≢true (two refl refl))
     by_cases true true false true one two three = absurd (false≢true (three refl))
@@ -151,13 +151,13 @@ last_piece rest byte field = like_many_field rest byte field ∙ as_choice (like
 
 -- a pattern takes no more bytes than the field has
 pub short_part : (part : PatternPart) (pattern : List PatternPart) (field : List ℕ)
-    → ((field : List ℕ) → like pattern field ≡ true → taken pattern ≤ length field) → is_single part ≡ true
-    → like (part ∷ pattern) field ≡ true → suc (taken pattern) ≤ length field
+    → ((field : List ℕ) → like pattern field ≡ true → least_length pattern ≤ length field) → is_single part ≡ true
+    → like (part ∷ pattern) field ≡ true → suc (least_length pattern) ≤ length field
 short_part part pattern [] short single found = absurd (false≢true (sym (none part single) ∙ found))
   where
     none : (part : PatternPart) → is_single part ≡ true → is_like (part ∷ pattern) [] ≡ false
-    none (Exactly wanted) single = refl
-    none (Alike folding wanted) single = refl
+    none (Exactly required) single = refl
+    none (Alike folding required) single = refl
     none One single = refl
     none Many single = absurd (false≢true single)
 short_part part pattern (byte ∷ field) short single found =
@@ -165,21 +165,21 @@ short_part part pattern (byte ∷ field) short single found =
     let more = short field (and_parts (takes part byte) (like pattern field) rest.1).1 in
     omega arith
 
-short_many : (pattern : List PatternPart) (field : List ℕ) → ((field : List ℕ) → like pattern field ≡ true → taken pattern ≤ length field)
-    → like (Many ∷ pattern) field ≡ true → taken pattern ≤ length field
+short_many : (pattern : List PatternPart) (field : List ℕ) → ((field : List ℕ) → like pattern field ≡ true → least_length pattern ≤ length field)
+    → like (Many ∷ pattern) field ≡ true → least_length pattern ≤ length field
 short_many pattern [] short found = short [] (sym (like_many_none pattern) ∙ found)
 short_many pattern (byte ∷ field) short found =
     or_cases (like pattern (byte ∷ field)) (like (Many ∷ pattern) field) (sym (like_many_field pattern byte field) ∙ found)
     (λ here. short (byte ∷ field) here) (λ later. let more = short_many pattern field short later in omega arith)
 
-pub like_short : (pattern : List PatternPart) (field : List ℕ) → like pattern field ≡ true → taken pattern ≤ length field
+pub like_short : (pattern : List PatternPart) (field : List ℕ) → like pattern field ≡ true → least_length pattern ≤ length field
 like_short [] field found = omega arith
 like_short (Many ∷ pattern) field found = short_many pattern field (like_short pattern) found
-like_short (Exactly wanted ∷ pattern) field found = short_part (Exactly wanted) pattern field (like_short pattern) refl found
-like_short (Alike folding wanted ∷ pattern) field found = short_part (Alike folding wanted) pattern field (like_short pattern) refl found
+like_short (Exactly required ∷ pattern) field found = short_part (Exactly required) pattern field (like_short pattern) refl found
+like_short (Alike folding required ∷ pattern) field found = short_part (Alike folding required) pattern field (like_short pattern) refl found
 like_short (One ∷ pattern) field found = short_part One pattern field (like_short pattern) refl found
 
-pub like_long : (pattern : List PatternPart) (field : List ℕ) → length field < taken pattern → like pattern field ≡ false
+pub like_long : (pattern : List PatternPart) (field : List ℕ) → length field < least_length pattern → like pattern field ≡ false
 like_long pattern field long = by_cases (like pattern field) refl
   where
     by_cases : (found : Bool) → like pattern field ≡ found → found ≡ false

@@ -21,7 +21,7 @@ use Rattle.cql2.specs.declared.filter.Comparison.TheVariants.{Equal, NotEqual}
 use Rattle.cql2.specs.declared.geometry.Bounds.{Bounds}
 use Rattle.cql2.specs.declared.geometry.Shape.{Shape}
 use Rattle.cql2.proofs.Sides.{IsShort}
-use Rattle.cql2_code.specs.Layout.{copy, from_argument_1, from_result, into_argument_1, into_kept, into_result, move, skip_if, wide_load}
+use Rattle.cql2_code.specs.Layout.{copy, from_argument_1, from_result, into_argument_1, into_saved, into_result, move, skip_if, wide_load}
 use Rattle.cql2_code.specs.Question.{coordinate_id}
 use Rattle.cql2_code.specs.ShapeCode.{end_latitude, end_longitude, from_first, into_end_latitude, into_first, into_second, into_side, line_code}
 use Rattle.cql2_code.specs.ShapeCode.{Marking, asks_marks, line_of, lead_code, mark_comparison, marks_code, marks_shape, shape_code}
@@ -50,7 +50,7 @@ use Rattle.cql2_code.proofs.WithinMarks.{within_marks}
 
 -- the code that reads the line passes
 
-keeping : Passes true (copy (into_kept 0) from_result) (resting true)
+keeping : Passes true (copy (into_saved 0) from_result) (resting true)
 keeping = record {
   after = knowing true (record nothing { v0 = any_number });
   passes = refl;
@@ -58,7 +58,7 @@ keeping = record {
   within = rests_after true (record nothing { v0 = any_number });
 }
 
-keeping_second : Passes true (copy (into_kept 1) from_result) (resting true)
+keeping_second : Passes true (copy (into_saved 1) from_result) (resting true)
 keeping_second = record {
   after = knowing true (record nothing { v0 = any_number });
   passes = refl;
@@ -66,7 +66,7 @@ keeping_second = record {
   within = rests_after true (record nothing { v0 = any_number });
 }
 
-keeping_third : Passes true (copy (into_kept 2) from_result) (resting true)
+keeping_third : Passes true (copy (into_saved 2) from_result) (resting true)
 keeping_third = record {
   after = knowing true (record nothing { v0 = any_number });
   passes = refl;
@@ -335,15 +335,15 @@ module _ (extent : Extent) (marking : Marking) (sound : IsSoundMarking marking) 
   pub marks_sound : IsSoundBlock (asks_marks extent marking)
   marks_sound = record {
     needs = λ keeps falls skip. refl;
-    good = λ keeps code falls skip place kept placed. by_keeps keeps code falls skip place kept placed;
+    good = λ keeps code falls skip place saved placed. by_keeps keeps code falls skip place saved placed;
     leads = λ on falls skip place segment placed from. block_leads on falls skip place segment placed from;
   }
     where
       by_keeps : (keeps : Bool) (code : List Insn) (falls : Bool) (skip place : ℕ) → Keeps keeps ((asks_marks extent marking).code falls skip)
           → Settled keeps code place ((asks_marks extent marking).code falls skip) skip
           → AreGoodAt keeps code place ((asks_marks extent marking).code falls skip)
-      by_keeps true code falls skip place kept placed = block_good code falls skip place placed
-      by_keeps false code falls skip place kept placed = absurd (false≢true (kept refl))
+      by_keeps true code falls skip place saved placed = block_good code falls skip place placed
+      by_keeps false code falls skip place saved placed = absurd (false≢true (saved refl))
 
 -- a shape's marking, and that of a box
 pub shape_sound : {A : Type 0} (shape : Shape A) → IsSoundMarking (marks_shape shape)

@@ -129,11 +129,11 @@ odd_is odd point (edge ∷ edges) =
 abbrev odd_marks : ℕ → ℕ
 odd_marks mark = result_of operation.And Bits64 mark (immediate_operand (pos 3))
 
-abbrev kept_mark : ℕ → ℕ
-kept_mark mark = result_of operation.And Bits64 mark (immediate_operand (pos 4))
+abbrev saved_mark : ℕ → ℕ
+saved_mark mark = result_of operation.And Bits64 mark (immediate_operand (pos 4))
 
 inside_is : (a b c : Bool)
-    → kept_mark (if holds (compare_number Equal from_first (pos 0)) (odd_marks (mark_of a b c)) (immediate_operand (pos 0)) then mark_of a b c
+    → saved_mark (if holds (compare_number Equal from_first (pos 0)) (odd_marks (mark_of a b c)) (immediate_operand (pos 0)) then mark_of a b c
     else marked (mark_of a b c))
     ≡ mark_of false false (c || (a || b))
 inside_is false false false = refl
@@ -223,7 +223,7 @@ module _ (on : Setting) (base : Scratch) (line : Edge) (short : IsShort line) wh
   inside_turns : (a b c : Bool) → Turns inside_code (mark_of a b c) (mark_of false false (c || (a || b)))
   inside_turns a b c hand lead held =
       leaves_as _ _
-      (ap (λ (n : ℕ). kept_mark (if holds (compare_number Equal from_first (pos 0)) (odd_marks n) (immediate_operand (pos 0)) then n else marked n)) held
+      (ap (λ (n : ℕ). saved_mark (if holds (compare_number Equal from_first (pos 0)) (odd_marks n) (immediate_operand (pos 0)) then n else marked n)) held
       ∙ inside_is a b c)
       (by_answer (holds (compare_number Equal from_first (pos 0)) (odd_marks hand.mark) (immediate_operand (pos 0)))
       (runs_unless on (filled base line odd) (compare_number Equal from_first (pos 0)) _ _ (compares_first on base line Equal (pos 0) odd) marks_met
@@ -239,7 +239,7 @@ module _ (on : Setting) (base : Scratch) (line : Edge) (short : IsShort line) wh
       met = record odd { mark = marked hand.mark }
 
       first : (to : Hand) → Moves on base line (unless (compare_number Equal from_first (pos 0)) marks_met) odd to
-          → Moves on base line inside_code hand (record to { mark = kept_mark to.mark })
+          → Moves on base line inside_code hand (record to { mark = saved_mark to.mark })
       first to runs =
           one_more (copies_argument_1_to_first on base line hand)
           (one_more (masks_first on base line (pos 3) copied) (and_then runs (one_more (masks_argument_1 on base line (pos 4) to) no_more)))
@@ -247,9 +247,9 @@ module _ (on : Setting) (base : Scratch) (line : Edge) (short : IsShort line) wh
       by_answer : (skipped : Bool)
           → Runs on (unless (compare_number Equal from_first (pos 0)) marks_met) (filled base line odd)
           (if skipped then filled base line odd else filled base line met)
-          → Leaves on base line inside_code hand (kept_mark (if skipped then hand.mark else marked hand.mark))
-      by_answer true runs = record { to = record odd { mark = kept_mark hand.mark }; runs = first odd runs; lead = refl; mark_is = refl }
-      by_answer false runs = record { to = record met { mark = kept_mark (marked hand.mark) }; runs = first met runs; lead = refl; mark_is = refl }
+          → Leaves on base line inside_code hand (saved_mark (if skipped then hand.mark else marked hand.mark))
+      by_answer true runs = record { to = record odd { mark = saved_mark hand.mark }; runs = first odd runs; lead = refl; mark_is = refl }
+      by_answer false runs = record { to = record met { mark = saved_mark (marked hand.mark) }; runs = first met runs; lead = refl; mark_is = refl }
 
   polygon_turns : {A : Type 0} (polygon : Polygon A) (c : Bool)
       → Turns (polygon_code polygon) (mark_of false false c) (mark_of false false (c || meets_polygon line polygon))

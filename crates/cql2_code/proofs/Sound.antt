@@ -23,13 +23,13 @@ use Rattle.cql2.specs.declared.pattern.PatternPart.{PatternPart}
 use Rattle.cql2.specs.declared.pattern.PatternPart.TheVariants.{Exactly, Alike, One, Many}
 use Rattle.cql2_code.specs.Grid.{grid}
 use Rattle.cql2_code.specs.Lowering.{are_pieces, bytes_alike, cell, ends_at, is_among, is_last, is_piece, rows_of}
-use Rattle.cql2_code.specs.Pieces.{pieces_of, taken}
+use Rattle.cql2_code.specs.Pieces.{least_length, pieces_of}
 use Rattle.cql2_code.specs.Lowering.{asks_about, asks_without_blanks_before, compares_columns, compares_fields, field_of, is_blank_field}
 use Rattle.cql2_code.specs.Lowering.{is_less_field, is_same_field}
-use Rattle.cql2_code.specs.Lowering.{are_wanted, asks_like, asks_whether, both, byte_test, chunk_test}
+use Rattle.cql2_code.specs.Lowering.{are_required, asks_like, asks_whether, both, byte_test, chunk_test}
 use Rattle.cql2_code.specs.Lowering.{compares_bytes, compares_number, compares_text, ends_filled, ends_so, exact_bytes, has_bytes, has_each}
-use Rattle.cql2_code.specs.Lowering.{has_few, has_value, holds_of_blanks, holds_of_zero, is_blank, is_each_wanted, is_greater}
-use Rattle.cql2_code.specs.Lowering.{is_less, is_like, is_null, is_wanted}
+use Rattle.cql2_code.specs.Lowering.{has_few, has_value, holds_of_blanks, holds_of_zero, is_blank, is_each_required, is_greater}
+use Rattle.cql2_code.specs.Lowering.{is_less, is_like, is_null, is_required}
 use Rattle.cql2_code.specs.Lowering.{number_of, test}
 use Rattle.cql2_code.specs.Question.{Question, Coded, Decided, Opposite, Joined, bytes_value, chunk_length, if_asked}
 use Rattle.cql2_code.specs.declared.field.Field.{Field}
@@ -46,8 +46,8 @@ use Rattle.cql2_code.proofs.NumberLemmas.{small_fits}
 use Rattle.cql2_code.proofs.PairLemmas.{pair_sound}
 use Rattle.cql2_code.proofs.PieceLemmas.{ArePieces, Cut, IsPiece, cut_pieces, lengths, piece_bytes}
 use Rattle.cql2_code.proofs.TextColumnLemmas.{column_within}
-use Rattle.cql2_code.proofs.TextLemmas.{exactly_piece, text_wanted}
-use Rattle.cql2_code.proofs.WantedLemmas.{Fits, FitsField, Spells, fits_first, fits_record, fits_rest, small_wanted, small_where, spells}
+use Rattle.cql2_code.proofs.TextLemmas.{exactly_piece, text_required}
+use Rattle.cql2_code.proofs.RequiredLemmas.{Fits, FitsField, Spells, fits_first, fits_record, fits_rest, small_required, small_where, spells}
 
 -- Bytes of the record
 
@@ -107,30 +107,30 @@ is_among_sound at [] within small = tt
 is_among_sound at (byte ∷ []) within small = byte_sound at Equal byte within small.0
 is_among_sound at (byte ∷ next ∷ bytes) within small = among_sound at byte (next ∷ bytes) within small
 
-byte_wanted_sound : (at : ℕ) (wanted : PatternPart) → at < 228 → is_byte wanted ≡ true → IsSound (is_wanted at wanted)
-byte_wanted_sound at (Exactly byte) within are = byte_sound at Equal byte within (ltb-true byte 256 are)
-byte_wanted_sound at (Alike folding wanted) within are =
-    is_among_sound at (bytes_alike folding wanted) within (small_where (λ byte. is_alike folding byte wanted) 256 (omega arith))
-byte_wanted_sound at One within are = tt
-byte_wanted_sound at Many within are = tt
+byte_required_sound : (at : ℕ) (required : PatternPart) → at < 228 → is_byte required ≡ true → IsSound (is_required at required)
+byte_required_sound at (Exactly byte) within are = byte_sound at Equal byte within (ltb-true byte 256 are)
+byte_required_sound at (Alike folding required) within are =
+    is_among_sound at (bytes_alike folding required) within (small_where (λ byte. is_alike folding byte required) 256 (omega arith))
+byte_required_sound at One within are = tt
+byte_required_sound at Many within are = tt
 
-each_wanted_sound : (at : ℕ) (piece : List PatternPart) → Fits at piece → IsSound (is_each_wanted at piece)
-each_wanted_sound at [] fits = tt
-each_wanted_sound at (wanted ∷ []) fits = let first = fits_first at wanted [] fits in byte_wanted_sound at wanted first.0 first.1
-each_wanted_sound at (wanted ∷ next ∷ piece) fits =
-    let first = fits_first at wanted (next ∷ piece) fits in
-    (byte_wanted_sound at wanted first.0 first.1, each_wanted_sound (at + 1) (next ∷ piece) (fits_rest at wanted (next ∷ piece) fits))
+each_required_sound : (at : ℕ) (piece : List PatternPart) → Fits at piece → IsSound (is_each_required at piece)
+each_required_sound at [] fits = tt
+each_required_sound at (required ∷ []) fits = let first = fits_first at required [] fits in byte_required_sound at required first.0 first.1
+each_required_sound at (required ∷ next ∷ piece) fits =
+    let first = fits_first at required (next ∷ piece) fits in
+    (byte_required_sound at required first.0 first.1, each_required_sound (at + 1) (next ∷ piece) (fits_rest at required (next ∷ piece) fits))
 
-wanted_sound_by : (at : ℕ) (piece : List PatternPart) (exact : Option (List ℕ)) → exact_bytes piece ≡ exact → Spells exact piece
-    → Fits at piece → IsSound (are_wanted at piece)
-wanted_sound_by at piece None exact spelled fits = rw exact (each_wanted_sound at piece fits)
-wanted_sound_by at piece (Some bytes) exact spelled fits =
+required_sound_by : (at : ℕ) (piece : List PatternPart) (exact : Option (List ℕ)) → exact_bytes piece ≡ exact → Spells exact piece
+    → Fits at piece → IsSound (are_required at piece)
+required_sound_by at piece None exact spelled fits = rw exact (each_required_sound at piece fits)
+required_sound_by at piece (Some bytes) exact spelled fits =
     let count : length piece ≡ length bytes = ap length spelled ∙ length-map bytes Exactly in
     let within = fits.within in
-    rw exact (bytes_sound at bytes (small_wanted bytes (sym (ap are_bytes spelled) ∙ piece_bytes piece fits.are)) (omega arith))
+    rw exact (bytes_sound at bytes (small_required bytes (sym (ap are_bytes spelled) ∙ piece_bytes piece fits.are)) (omega arith))
 
-wanted_sound : (at : ℕ) (piece : List PatternPart) → Fits at piece → IsSound (are_wanted at piece)
-wanted_sound at piece fits = wanted_sound_by at piece (exact_bytes piece) refl (spells piece) fits
+required_sound : (at : ℕ) (piece : List PatternPart) → Fits at piece → IsSound (are_required at piece)
+required_sound at piece fits = required_sound_by at piece (exact_bytes piece) refl (spells piece) fits
 
 -- the rest of a field after some bytes
 rest_sound : (field : Field) (lies : IsInside field) (count : ℕ) → count ≤ field.width
@@ -139,8 +139,8 @@ rest_sound field lies count few =
     blank_sound (field.offset + count) (field.width - count) (omega arith)
 
 module _ (field : Field) (lies : IsInside field) (from : ℕ) (piece : List PatternPart) (fits : FitsField field from piece) where
-  wanted_here : IsSound (are_wanted (field.offset + from) piece)
-  wanted_here = wanted_sound (field.offset + from) piece (fits_record field lies from piece fits)
+  required_here : IsSound (are_required (field.offset + from) piece)
+  required_here = required_sound (field.offset + from) piece (fits_record field lies from piece fits)
 
   closes_here : IsSound (is_blank (field.offset + (from + length piece)) (field.width - (from + length piece)))
   closes_here = rest_sound field lies (from + length piece) fits.within
@@ -148,21 +148,21 @@ module _ (field : Field) (lies : IsInside field) (from : ℕ) (piece : List Patt
   fills_here : IsSound (is_blank (field.offset + (from + length piece - 1)) (field.width - (from + length piece - 1)))
   fills_here = let within = fits.within in rest_sound field lies (from + length piece - 1) (omega arith)
 
-  closed_sound : (whole : Bool) → IsSound (both (are_wanted (field.offset + from) piece)
+  closed_sound : (whole : Bool) → IsSound (both (are_required (field.offset + from) piece)
       (if whole then None else Some (is_blank (field.offset + (from + length piece)) (field.width - (from + length piece)))))
-  closed_sound true = wanted_here
-  closed_sound false = (wanted_here, closes_here)
+  closed_sound true = required_here
+  closed_sound false = (required_here, closes_here)
 
   ends_so_sound : (is_open filled : Bool)
-      → IsSound (both (are_wanted (field.offset + from) piece) (ends_so is_open filled field (from + length piece)))
-  ends_so_sound true true = wanted_here
-  ends_so_sound true false = (wanted_here, fills_here)
+      → IsSound (both (are_required (field.offset + from) piece) (ends_so is_open filled field (from + length piece)))
+  ends_so_sound true true = required_here
+  ends_so_sound true false = (required_here, fills_here)
   ends_so_sound false true = closed_sound (from + length piece == field.width)
-  ends_so_sound false false = (wanted_here, (closes_here, fills_here))
+  ends_so_sound false false = (required_here, (closes_here, fills_here))
 
   cell_sound : (last is_open : Bool) → IsSound (cell field piece last is_open from)
   cell_sound true is_open = ends_so_sound is_open (ends_filled piece)
-  cell_sound false is_open = wanted_here
+  cell_sound false is_open = required_here
 
 module _ (field : Field) (lies : IsInside field) (piece : List PatternPart) (are : IsPiece piece) (is_open : Bool) where
   piece_by : (short : Bool) → nat_le (length piece) field.width ≡ short
@@ -192,24 +192,24 @@ rows_sound field lies is_open from columns (piece ∷ pieces) are fits = (
 
 module _ (field : Field) (lies : IsInside field) (pattern : List PatternPart) where
   pieces_by : (first piece : List PatternPart) (others : List (List PatternPart)) (is_open short : Bool)
-      → nat_le (taken pattern) field.width ≡ short → Cut pattern first (piece ∷ others) is_open
-      → IsSound (if short then Joined true (are_wanted field.offset first)
-      (Coded (grid (rows_of field is_open (length first) (piece ∷ others)) (suc (field.width - taken pattern))))
+      → nat_le (least_length pattern) field.width ≡ short → Cut pattern first (piece ∷ others) is_open
+      → IsSound (if short then Joined true (are_required field.offset first)
+      (Coded (grid (rows_of field is_open (length first) (piece ∷ others)) (suc (field.width - least_length pattern))))
       else Decided false)
   pieces_by first piece others is_open true short cut =
-      let few = leb-true (taken pattern) field.width short in
+      let few = leb-true (least_length pattern) field.width short in
       let takes = cut.takes in (
-        wanted_sound field.offset first (record { within = omega arith; are = cut.first_is }),
-        grid_sound (rows_of field is_open (length first) (piece ∷ others)) (suc (field.width - taken pattern))
-            (rows_sound field lies is_open (length first) (suc (field.width - taken pattern)) (piece ∷ others) cut.others_are (omega arith)),
+        required_sound field.offset first (record { within = omega arith; are = cut.first_is }),
+        grid_sound (rows_of field is_open (length first) (piece ∷ others)) (suc (field.width - least_length pattern))
+            (rows_sound field lies is_open (length first) (suc (field.width - least_length pattern)) (piece ∷ others) cut.others_are (omega arith)),
       )
   pieces_by first piece others is_open false short cut = tt
 
   pieces_sound : (first : List PatternPart) (others : List (List PatternPart)) (is_open : Bool) → Cut pattern first others is_open
-      → IsSound (are_pieces field first others is_open (taken pattern))
+      → IsSound (are_pieces field first others is_open (least_length pattern))
   pieces_sound first [] is_open cut = piece_sound field lies first cut.first_is is_open
   pieces_sound first (piece ∷ others) is_open cut =
-      pieces_by first piece others is_open (nat_le (taken pattern) field.width) refl cut
+      pieces_by first piece others is_open (nat_le (least_length pattern) field.width) refl cut
 
   like_sound : are_bytes pattern ≡ true → IsSound (is_like field pattern)
   like_sound are =
@@ -345,6 +345,6 @@ asks_soundly (CompareNumbers first comparison second) asked =
     exact_sound first.expression _ second.expression first.is_exact second.is_exact
 asks_soundly (CompareTexts first comparison second) asked = compares_columns_sound first second _
 asks_soundly (CompareText column comparison text) asked =
-    compares_text_sound column text.bytes.items (text_wanted text.bytes.items text.is_text).small _
+    compares_text_sound column text.bytes.items (text_required text.bytes.items text.is_text).small _
 asks_soundly (Like column pattern) asked = asks_like_sound column pattern.parts.items asked pattern.are_bytes
 asks_soundly (Function function) asked = function_soundly function asked

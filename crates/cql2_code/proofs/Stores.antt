@@ -120,30 +120,30 @@ bytes_of_take (suc count) (byte ∷ bytes) fits (suc i) = bytes_of_take count by
 
 -- the number that stores a word of a name
 abbrev word_number : ℕ → List ℕ → ℕ
-word_number word wanted = immediate_operand (cast_signed w32 (bytes_value (take 4 (drop (4 * word) wanted))))
+word_number word required = immediate_operand (cast_signed w32 (bytes_value (take 4 (drop (4 * word) required))))
 
-word_is : (wanted : List ℕ) (word : ℕ) → AreBytes 32 wanted → word < 8
-    → bytes_low_first 0 4 (word_number word wanted) ≡ take 4 (drop (4 * word) wanted)
-word_is wanted word sound small =
-    let part = drop (4 * word) wanted in
-    let whole = length-drop (4 * word) wanted in
+word_is : (required : List ℕ) (word : ℕ) → AreBytes 32 required → word < 8
+    → bytes_low_first 0 4 (word_number word required) ≡ take 4 (drop (4 * word) required)
+word_is required word sound small =
+    let part = drop (4 * word) required in
+    let whole = length-drop (4 * word) required in
     let long = length-take 4 part in
     let all = sound.length in
-    word_bytes (take 4 part) (omega arith) (bytes_of_take 4 part (bytes_of_drop (4 * word) wanted sound.bytes))
+    word_bytes (take 4 part) (omega arith) (bytes_of_take 4 part (bytes_of_drop (4 * word) required sound.bytes))
 
 -- stores that put a name into the frame and change nothing else
-pub record Stores (on : Setting) (insns : List Insn) (from : Scratch) (wanted : List ℕ) : Type 0 where
+pub record Stores (on : Setting) (insns : List Insn) (from : Scratch) (required : List ℕ) : Type 0 where
   pub frame : FrameContents
   pub whole : length frame.bytes ≡ FRAME_LENGTH
-  pub holds : Holds frame.bytes (take 32 wanted)
+  pub holds : Holds frame.bytes (take 32 required)
   pub runs : Runs on insns from (record from { frame = frame; whole = whole })
 
 -- a word of the name, and then the later ones
-stores_word : (on : Setting) (from : Scratch) (wanted : List ℕ) (word : ℕ) (rest : List Insn) → AreBytes 32 wanted
-    → (word < 8) × (pos FRAME_LENGTH +ℤ negsuc (31 - 4 * word) ≡ pos (480 + 4 * word)) × Holds from.frame.bytes (take (4 * word) wanted)
-    → ((next : Scratch) → Holds next.frame.bytes (take (4 * word + 4) wanted) → Stores on rest next wanted)
-    → Stores on (store_word word wanted ∷ rest) from wanted
-stores_word on from wanted word rest sound here more =
+stores_word : (on : Setting) (from : Scratch) (required : List ℕ) (word : ℕ) (rest : List Insn) → AreBytes 32 required
+    → (word < 8) × (pos FRAME_LENGTH +ℤ negsuc (31 - 4 * word) ≡ pos (480 + 4 * word)) × Holds from.frame.bytes (take (4 * word) required)
+    → ((next : Scratch) → Holds next.frame.bytes (take (4 * word + 4) required) → Stores on rest next required)
+    → Stores on (store_word word required ∷ rest) from required
+stores_word on from required word rest sound here more =
     record {
       frame = after.frame;
       whole = after.whole;
@@ -155,35 +155,35 @@ stores_word on from wanted word rest sound here more =
     within = let small = here.0 in omega arith
 
     next : Scratch
-    next = stored from (480 + 4 * word) (word_number word wanted) within
+    next = stored from (480 + 4 * word) (word_number word required) within
 
-    count : 480 + 4 * word ≡ 480 + length (take (4 * word) wanted)
-    count = let small = here.0 in let long = sound.length in let part = length-take (4 * word) wanted in omega arith
+    count : 480 + 4 * word ≡ 480 + length (take (4 * word) required)
+    count = let small = here.0 in let long = sound.length in let part = length-take (4 * word) required in omega arith
 
-    longer : take (4 * word) wanted ++ bytes_low_first 0 4 (word_number word wanted) ≡ take (4 * word + 4) wanted
-    longer = ap (λ (l : List ℕ). take (4 * word) wanted ++ l) (word_is wanted word sound here.0) ∙ sym (take-add (4 * word) 4 wanted)
+    longer : take (4 * word) required ++ bytes_low_first 0 4 (word_number word required) ≡ take (4 * word + 4) required
+    longer = ap (λ (l : List ℕ). take (4 * word) required ++ l) (word_is required word sound here.0) ∙ sym (take-add (4 * word) 4 required)
 
-    holds : Holds next.frame.bytes (take (4 * word + 4) wanted)
+    holds : Holds next.frame.bytes (take (4 * word + 4) required)
     holds = subst (Holds next.frame.bytes) longer
-        (holds_more from.frame.bytes (take (4 * word) wanted) (480 + 4 * word) (word_number word wanted) count here.2)
+        (holds_more from.frame.bytes (take (4 * word) required) (480 + 4 * word) (word_number word required) count here.2)
 
-    after : Stores on rest next wanted
+    after : Stores on rest next required
     after = more next holds
 
-stores_none : (on : Setting) (from : Scratch) (wanted : List ℕ) → Holds from.frame.bytes (take 32 wanted) → Stores on [] from wanted
-stores_none on from wanted holds = record { frame = from.frame; whole = from.whole; holds = holds; runs = no_more }
+stores_none : (on : Setting) (from : Scratch) (required : List ℕ) → Holds from.frame.bytes (take 32 required) → Stores on [] from required
+stores_none on from required holds = record { frame = from.frame; whole = from.whole; holds = holds; runs = no_more }
 
-pub name_stored : (on : Setting) (from : Scratch) (wanted : List ℕ) → AreBytes 32 wanted → Stores on (store_name wanted) from wanted
-name_stored on from wanted sound =
-    stores_word on from wanted 0 _ sound (lit< tt, refl, holds_none from.frame.bytes from.whole) (λ one h.
-    stores_word on one wanted 1 _ sound (lit< tt, refl, h) (λ two h.
-    stores_word on two wanted 2 _ sound (lit< tt, refl, h) (λ three h.
-    stores_word on three wanted 3 _ sound (lit< tt, refl, h) (λ four h.
-    stores_word on four wanted 4 _ sound (lit< tt, refl, h) (λ five h.
-    stores_word on five wanted 5 _ sound (lit< tt, refl, h) (λ six h.
-    stores_word on six wanted 6 _ sound (lit< tt, refl, h) (λ seven h.
-    stores_word on seven wanted 7 _ sound (lit< tt, refl, h) (λ eight h.
-    stores_none on eight wanted h))))))))
+pub name_stored : (on : Setting) (from : Scratch) (required : List ℕ) → AreBytes 32 required → Stores on (store_name required) from required
+name_stored on from required sound =
+    stores_word on from required 0 _ sound (lit< tt, refl, holds_none from.frame.bytes from.whole) (λ one h.
+    stores_word on one required 1 _ sound (lit< tt, refl, h) (λ two h.
+    stores_word on two required 2 _ sound (lit< tt, refl, h) (λ three h.
+    stores_word on three required 3 _ sound (lit< tt, refl, h) (λ four h.
+    stores_word on four required 4 _ sound (lit< tt, refl, h) (λ five h.
+    stores_word on five required 5 _ sound (lit< tt, refl, h) (λ six h.
+    stores_word on six required 6 _ sound (lit< tt, refl, h) (λ seven h.
+    stores_word on seven required 7 _ sound (lit< tt, refl, h) (λ eight h.
+    stores_none on eight required h))))))))
 
 -- the call that compares a name with the first 30 bytes that are stored
 

@@ -46,9 +46,9 @@ takes_in_range on range house from sound =
     }
 
 -- a name that is stored in the frame and compared
-takes_name_is : (on : Setting) (name : ℕ) (wanted : List ℕ) (from : Scratch) → IsSoundSubject (NameIs name wanted)
-    → Takes on (NameIs name wanted) from
-takes_name_is on name wanted from sound = record {
+takes_name_is : (on : Setting) (name : ℕ) (required : List ℕ) (from : Scratch) → IsSoundSubject (NameIs name required)
+    → Takes on (NameIs name required) from
+takes_name_is on name required from sound = record {
   to = answered with_name 0 480;
   runs = one_more (moves_1 on from name)
       (one_more (copies_10_to_2 on (with_1 from name))
@@ -57,21 +57,21 @@ takes_name_is on name wanted from sound = record {
       (and_then stored.runs (one_more call_7 no_more)))));
 }
   where
-    stored : Stores on (store_name wanted) (name_arguments from name) wanted
-    stored = name_stored on (name_arguments from name) wanted sound.1
+    stored : Stores on (store_name required) (name_arguments from name) required
+    stored = name_stored on (name_arguments from name) required sound.1
 
     with_name : Scratch
     with_name = record from { frame = stored.frame; whole = stored.whole }
 
-    whole : take 32 wanted ≡ wanted
-    whole = take_all 32 wanted (let long = sound.1.length in omega arith)
+    whole : take 32 required ≡ required
+    whole = take_all 32 required (let long = sound.1.length in omega arith)
 
-    reads : take 30 (drop 480 stored.frame.bytes) ≡ map Byte (take 30 wanted)
-    reads = name_read stored.frame.bytes wanted (let long = sound.1.length in omega arith)
+    reads : take 30 (drop 480 stored.frame.bytes) ≡ map Byte (take 30 required)
+    reads = name_read stored.frame.bytes required (let long = sound.1.length in omega arith)
         (subst (Holds stored.frame.bytes) whole stored.holds)
 
-    call_7 : Does on (call helper.NameIs) (name_arguments with_name name) (answered with_name (number_in (NameIs name wanted) on.segment) 480)
-    call_7 = calls_name_is on with_name name (take 30 wanted) (let fits = sound.0 in omega arith) reads
+    call_7 : Does on (call helper.NameIs) (name_arguments with_name name) (answered with_name (number_in (NameIs name required) on.segment) 480)
+    call_7 = calls_name_is on with_name name (take 30 required) (let fits = sound.0 in omega arith) reads
 
 -- every sound subject's code does this
 pub takes : (on : Setting) (subject : Subject) (from : Scratch) → IsSoundSubject subject → IsSegment on.segment → Takes on subject from
@@ -91,7 +91,7 @@ takes on (Coordinate column) from sound segment = record {
 takes on Names from sound segment = record { to = answered from 0 0; runs = one_more (calls_names on from) no_more }
 takes on Ranges from sound segment = record { to = answered from 0 0; runs = one_more (calls_ranges on from) no_more }
 takes on (InRange range house) from sound segment = takes_in_range on range house from sound
-takes on (NameIs name wanted) from sound segment = takes_name_is on name wanted from sound
+takes on (NameIs name required) from sound segment = takes_name_is on name required from sound
 takes on (Load chunk at) from sound segment = record {
   to = from;
   runs = one_more (loads on from chunk at (let long = segment.bytes.length in omega arith)) no_more;

@@ -8,8 +8,7 @@ use Rattle.tl_segments.specs.Segment.{SegmentParts, IsSegment}
 use Rattle.cql2.specs.Column.{is_right_justified, text_in as column_text, text_places, text_value, trim_end}
 use Rattle.cql2.specs.Truth.{is as is_truth}
 use Rattle.cql2.specs.declared.column.TextColumn.{TextColumn}
-use Rattle.cql2.specs.declared.column.TextColumn.TheVariants.{Rt, Version, Side1, Source, Fedirp, Fename, Fetype, Fedirs, Cfcc, FraddlText, ToaddlText}
-use Rattle.cql2.specs.declared.column.TextColumn.TheVariants.{FraddrText, ToaddrText, Friaddl, Toiaddl, Friaddr, Toiaddr, Cousubl, Cousubr}
+use Rattle.cql2.specs.declared.column.TextColumn.TheVariants.{Rt}
 use Rattle.cql2.specs.declared.filter.Comparison.TheVariants.{NotEqual}
 use Rattle.cql2_code.specs.Lowering.{asks_about, asks_without_blanks_before, byte_test, field_of, is_blank_field}
 use Rattle.cql2_code.specs.Question.{Joined, Opposite, Question, answer}
@@ -22,46 +21,12 @@ use Rattle.cql2_code.proofs.TrimLemmas.{trim_end_is, trimmed}
 -- a column's field is within the record
 pub column_within : (column : TextColumn) → IsInside (field_of column)
 column_within Rt = lit≤ tt
-column_within Version = lit≤ tt
-column_within Side1 = lit≤ tt
-column_within Source = lit≤ tt
-column_within Fedirp = lit≤ tt
-column_within Fename = lit≤ tt
-column_within Fetype = lit≤ tt
-column_within Fedirs = lit≤ tt
-column_within Cfcc = lit≤ tt
-column_within FraddlText = lit≤ tt
-column_within ToaddlText = lit≤ tt
-column_within FraddrText = lit≤ tt
-column_within ToaddrText = lit≤ tt
-column_within Friaddl = lit≤ tt
-column_within Toiaddl = lit≤ tt
-column_within Friaddr = lit≤ tt
-column_within Toiaddr = lit≤ tt
-column_within Cousubl = lit≤ tt
-column_within Cousubr = lit≤ tt
+column_within column = lit≤ tt
 
 field_at_is : (column : TextColumn) (segment : SegmentParts)
     → field_at (text_places column) segment.bytes ≡ bytes_in (field_of column) segment
 field_at_is Rt segment = refl
-field_at_is Version segment = refl
-field_at_is Side1 segment = refl
-field_at_is Source segment = refl
-field_at_is Fedirp segment = refl
-field_at_is Fename segment = refl
-field_at_is Fetype segment = refl
-field_at_is Fedirs segment = refl
-field_at_is Cfcc segment = refl
-field_at_is FraddlText segment = refl
-field_at_is ToaddlText segment = refl
-field_at_is FraddrText segment = refl
-field_at_is ToaddrText segment = refl
-field_at_is Friaddl segment = refl
-field_at_is Toiaddl segment = refl
-field_at_is Friaddr segment = refl
-field_at_is Toiaddr segment = refl
-field_at_is Cousubl segment = refl
-field_at_is Cousubr segment = refl
+field_at_is column segment = refl
 
 -- the bytes of a column from where its text begins
 abbrev pub text_bytes : TextColumn → SegmentParts → List ℕ

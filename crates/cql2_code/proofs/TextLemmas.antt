@@ -26,7 +26,7 @@ use Rattle.cql2_code.proofs.JoinLemmas.{both_answers, either_answers, is_it, isn
 use Rattle.cql2_code.proofs.PieceLemmas.{IsPiece}
 use Rattle.cql2_code.proofs.TextColumnLemmas.{about_found, text_bytes, value_asked}
 use Rattle.cql2_code.proofs.TrimLemmas.{trimmed, trimmed_blank}
-use Rattle.cql2_code.proofs.WantedLemmas.{ending, piece_found}
+use Rattle.cql2_code.proofs.RequiredLemmas.{ending, piece_found}
 
 -- Texts that a filter can hold
 
@@ -44,7 +44,7 @@ fine_rest : (byte : ℕ) (text : List ℕ) → IsFine (byte ∷ text) → IsFine
 fine_rest byte [] fine = tt
 fine_rest byte (next ∷ text) fine = fine.1
 
-pub record IsWanted (text : List ℕ) : Type 0 where
+pub record IsRequired (text : List ℕ) : Type 0 where
   pub small : AreSmall text
   pub fine : IsFine text
   pub some : 1 ≤ length text
@@ -73,8 +73,8 @@ some_text : (text : List ℕ) → ends_filled text ≡ true → 1 ≤ length tex
 some_text [] filled = absurd (false≢true filled)
 some_text (byte ∷ text) filled = omega arith
 
-pub text_wanted : (text : List ℕ) → is_text text ≡ true → IsWanted text
-text_wanted text is =
+pub text_required : (text : List ℕ) → is_text text ≡ true → IsRequired text
+text_required text is =
     let ends = and_parts (list_all is_printable text && nat_le (length text) 30) (ends_filled text) is in
     let parts = and_parts (list_all is_printable text) (nat_le (length text) 30) ends.0 in
     record {
@@ -167,11 +167,11 @@ module _ (segment : SegmentParts) (is : IsSegment segment) where
 
 -- Equality is LIKE without wildcards
 
-like_same : (text wanted : List ℕ) → is_text_like (ending (map Exactly wanted) false) text ≡ is_same text wanted
+like_same : (text required : List ℕ) → is_text_like (ending (map Exactly required) false) text ≡ is_same text required
 like_same [] [] = refl
 like_same (byte ∷ text) [] = refl
-like_same [] (byte ∷ wanted) = refl
-like_same (first ∷ text) (byte ∷ wanted) = ap (λ (rest : Bool). first == byte && rest) (like_same text wanted)
+like_same [] (byte ∷ required) = refl
+like_same (first ∷ text) (byte ∷ required) = ap (λ (rest : Bool). first == byte && rest) (like_same text required)
 
 pub exactly_piece : (text : List ℕ) → AreSmall text → IsPiece (map Exactly text)
 exactly_piece [] small = tt
@@ -211,22 +211,22 @@ opposite_compares_text Greater text other = refl
 opposite_compares_text GreaterOrEqual text other = sym (not_not (is_text_less text other))
 
 module _ (segment : SegmentParts) (is : IsSegment segment) (field : Field) (lies : IsInside field) (text : List ℕ)
-    (wanted : IsWanted text) where
+    (required : IsRequired text) where
   same_here : answer (is_piece field (map Exactly text) false) segment ≡ is_same (trimmed (bytes_in field segment)) text
   same_here =
-      piece_found segment is field lies (map Exactly text) (exactly_piece text wanted.small) false
+      piece_found segment is field lies (map Exactly text) (exactly_piece text required.small) false
       ∙ ap (λ (like : Bool). not (are_blank (bytes_in field segment)) && like) (like_same (trimmed (bytes_in field segment)) text)
-      ∙ unless_blank (λ found. is_same found text) (bytes_in field segment) (same_blank text wanted.some)
+      ∙ unless_blank (λ found. is_same found text) (bytes_in field segment) (same_blank text required.some)
 
   less_here : answer (is_less field.offset field.width text) segment
       ≡ is_text_less (trimmed (bytes_in field segment)) text
   less_here =
-      less_found segment is field.offset field.width text lies wanted.small
-      ∙ less_trimmed (bytes_in field segment) text wanted.fine
+      less_found segment is field.offset field.width text lies required.small
+      ∙ less_trimmed (bytes_in field segment) text required.fine
 
   greater_here : answer (is_greater field.offset field.width text) segment
       ≡ is_text_less text (trimmed (bytes_in field segment))
-  greater_here = greater_found segment is field.offset field.width text lies wanted.small wanted.fine
+  greater_here = greater_found segment is field.offset field.width text lies required.small required.fine
 
   bytes_compared : (comparison : Comparison) → answer (compares_bytes field comparison text) segment
       ≡ text_compares comparison (trimmed (bytes_in field segment)) text
@@ -242,16 +242,16 @@ module _ (segment : SegmentParts) (is : IsSegment segment) (field : Field) (lies
   bytes_blank comparison fails blank =
       bytes_compared comparison
       ∙ ap (λ (found : List ℕ). text_compares comparison found text) (trimmed_blank (bytes_in field segment) blank)
-      ∙ compares_blank comparison text fails wanted.some
+      ∙ compares_blank comparison text fails required.some
 
-module _ (segment : SegmentParts) (is : IsSegment segment) (column : TextColumn) (text : List ℕ) (wanted : IsWanted text) where
+module _ (segment : SegmentParts) (is : IsSegment segment) (column : TextColumn) (text : List ℕ) (required : IsRequired text) where
   text_compared : (comparison : Comparison) → answer (compares_text column comparison text) segment
       ≡ has_text (λ found. text_compares comparison found text) (text_bytes column segment)
   text_compared comparison =
       about_found segment is (holds_of_blanks comparison) (λ field. compares_bytes field comparison text)
       (λ found. text_compares comparison found text)
-      (λ field lies filled. bytes_compared segment is field lies text wanted comparison)
-      (λ fails field lies blank. bytes_blank segment is field lies text wanted comparison fails blank) column
+      (λ field lies filled. bytes_compared segment is field lies text required comparison)
+      (λ fails field lies blank. bytes_blank segment is field lies text required comparison fails blank) column
 
   compared_asked : (comparison : Comparison) (asked : Bool)
       → answer (compares_text column (if asked then comparison else opposite comparison) text) segment

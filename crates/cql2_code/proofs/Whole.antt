@@ -14,7 +14,7 @@ use Rattle.tl_segments.specs.Segment.{SegmentParts, IsSegment}
 use Rattle.cql2.specs.declared.column.NumericColumn.{NumericColumn}
 use Rattle.cql2.specs.declared.column.NumericColumn.TheVariants as column
 use Rattle.cql2_code.specs.Chosen.{score_of}
-use Rattle.cql2_code.specs.Layout.{answer_code, call, chosen_code, copy, kept_code, program, subject_code, from_result, from_argument_1, into_argument_1}
+use Rattle.cql2_code.specs.Layout.{answer_code, call, chosen_code, copy, saved_code, program, subject_code, from_result, from_argument_1, into_argument_1}
 use Rattle.cql2_code.specs.Layout.{into_record}
 use Rattle.cql2_code.specs.Question.{value as number_in, IsSoundSubject, Question, answer}
 use Rattle.cql2_code.specs.declared.question.Subject.{Subject}
@@ -23,7 +23,7 @@ use Rattle.cql2_code.proofs.Blocks.{IsSound}
 use Rattle.cql2_code.proofs.Calls.{answered, calls_emit, scored}
 use Rattle.cql2_code.proofs.Columns.{coordinate_fits, field_fits}
 use Rattle.cql2_code.proofs.Program.{has_all, has_chosen, has_first, has_other, keeps_of, middle_of, question_at, start_of}
-use Rattle.cql2_code.proofs.KeptSteps.{begins_kept, begun}
+use Rattle.cql2_code.proofs.SavedSteps.{begins_saved, begun}
 use Rattle.cql2_code.proofs.Leads.{Arrives, exit_of}
 use Rattle.cql2_code.proofs.Runs.{question_leads}
 use Rattle.cql2_code.proofs.Subjects.{takes}
@@ -120,12 +120,12 @@ program_answers score question sound segment is = record { run = all.run; is_run
     begins : Begins on.code place
     begins = begins_at on.code place middle (question_at score question).has (question_at score question).end
 
-    has_kept : HasAt on.code 1 (kept_code keeps)
-    has_kept = (has_first score question).1
+    has_saved : HasAt on.code 1 (saved_code keeps)
+    has_saved = (has_first score question).1
 
     starts : running on at_first 1 ≡ after on.code on.segment start
     starts = sym (after_at on start (copy into_record from_argument_1) (has_all on.code).0
-        ∙ continues_at on start 1 (SetRegister into_record to_record) (begins_at on.code 1 (kept_code keeps) has_kept begins))
+        ∙ continues_at on start 1 (SetRegister into_record to_record) (begins_at on.code 1 (saved_code keeps) has_saved begins))
 
     there : Arrives on (running on (begun keeps at_first) place) (exit_of true (answer question segment) (place + word_count middle) skip)
     there = question_leads on question true skip place sound is (question_at score question) (begun keeps at_first)
@@ -137,5 +137,5 @@ program_answers score question sound segment is = record { run = all.run; is_run
 
     all : Reaches on (Running start) (ended score segment (answer question segment))
     all = steps_on on start (running on at_first 1) _ starts
-        (and_on on _ (running on (begun keeps at_first) place) _ ((begins_kept on keeps at_first).reaches 1 has_kept begins)
+        (and_on on _ (running on (begun keeps at_first) place) _ ((begins_saved on keeps at_first).reaches 1 has_saved begins)
         (and_on on _ _ _ there.reaches (ends (answer question segment))))

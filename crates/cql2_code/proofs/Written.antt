@@ -68,4 +68,4 @@ module _ {question : Question} {exits other : Exits} {old new : List Insn} where
 pub before_second : {second : Question} {exits first : Exits} {old new : List Insn} {words : ℕ}
     → words ≡ word_count old → Writes second exits old new → IsBefore true exits first (word_count new - words)
     → WritesBefore (Some second) exits first old new
-before_second counted last at = λ wanted all front. joined counted last at front
+before_second counted last at = λ required all front. joined counted last at front

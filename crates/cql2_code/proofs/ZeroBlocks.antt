@@ -44,14 +44,14 @@ module _ (code : List Insn) (number : SegmentParts → ℕ) (comparison : Compar
 
   zero_good : (keeps : Bool) (whole : List Insn) (falls : Bool) (skip place : ℕ) → Keeps keeps (code ++ back_code falls skip)
       → Settled keeps whole place (code ++ back_code falls skip) skip → AreGoodAt keeps whole place (code ++ back_code falls skip)
-  zero_good keeps whole falls skip place kept placed =
+  zero_good keeps whole falls skip place saved placed =
       let back = back_code falls skip in
       let after = second_placed (Rests keeps whole) whole place code back skip placed in
       let needs = needs_at keeps whole (place + word_count code) back (resting keeps) after.has after.end.needs
       ∙ comparison_needs keeps (jumping falls) (pos 0) skip in
       good-append keeps whole place code back
       (all_good keeps whole place code (answered keeps) (has_front whole place code back placed.has) needs
-      (sound.passes keeps (keeps_front keeps code back kept)))
+      (sound.passes keeps (keeps_front keeps code back saved)))
       (comparison_good keeps whole (place + word_count code) (jumping falls) (pos 0) skip (small_fits 0 (omega arith)) after)
 
   zero_leads : (on : Setting) (falls : Bool) (skip place : ℕ) → IsSegment on.segment → IsAt on.code place (code ++ back_code falls skip) skip

@@ -18,7 +18,7 @@ use Rattle.cql2.specs.declared.filter.Comparison.{Comparison}
 use Rattle.cql2.specs.declared.filter.Comparison.TheVariants.{NotEqual}
 use Rattle.tl_segments.specs.Segment.{SegmentParts}
 use Rattle.cql2_code.specs.Columns.{has_value, number_of}
-use Rattle.cql2_code.specs.Layout.{comparison_code, copy, from_argument_1, from_kept, from_result, into_argument_1, into_kept, into_result}
+use Rattle.cql2_code.specs.Layout.{comparison_code, copy, from_argument_1, from_saved, from_result, into_argument_1, into_saved, into_result}
 use Rattle.cql2_code.specs.Layout.{is_narrow, move, opposite, subject_code, wide_load}
 use Rattle.cql2_code.specs.Question.{Block, Question, Coded, Decided, Joined, condition_of, value}
 
@@ -45,15 +45,15 @@ combine_literal operator literal =
     then operate operator (Immediate literal) ∷ []
     else wide_load into_argument_1 (immediate_operand literal) ∷ operate operator (Register from_argument_1) ∷ []
 
--- an operation on the number kept at a level and register 0
-abbrev pub combine_kept : Operator → ℕ → List Insn
-combine_kept operator level =
-    copy into_argument_1 from_result ∷ copy into_result (from_kept level) ∷ operate operator (Register from_argument_1) ∷ []
+-- an operation on the number saved at a level and register 0
+abbrev pub combine_saved : Operator → ℕ → List Insn
+combine_saved operator level =
+    copy into_argument_1 from_result ∷ copy into_result (from_saved level) ∷ operate operator (Register from_argument_1) ∷ []
 
 -- the code after that of a first operand, by that of the second one
 abbrev pub second_code : {A : Type 0} → Operator → ℕ → Expression A → List Insn → List Insn
 second_code operator level (Literal literal) code = combine_literal operator literal.number
-second_code operator level second code = copy (into_kept level) from_result ∷ (code ++ combine_kept operator level)
+second_code operator level second code = copy (into_saved level) from_result ∷ (code ++ combine_saved operator level)
 
 -- the code that computes an expression in register 0, and keeps numbers from a level on
 abbrev pub number_code : {A : Type 0} → Expression A → ℕ → List Insn

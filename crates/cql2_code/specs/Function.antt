@@ -50,23 +50,23 @@ asks_has_number house asked = if_asked (lies_from house 0 (suc MAX_RANGES)) aske
 abbrev pub name_block : List ℕ → List ℕ
 name_block text = text ++ replicate (32 - length text) 32
 
--- one of several names, given by the index of the first one and by their count, is the wanted one
+-- one of several names, given by the index of the first one and by their count, is the required one
 unfoldable pub is_named_from : List ℕ → ℕ → ℕ → Question
-is_named_from wanted at zero = Decided false
-is_named_from wanted at (suc more) =
+is_named_from required at zero = Decided false
+is_named_from required at (suc more) =
     if checks_for_end at
     then Joined true (test Names GreaterOrEqual (pos at))
-    (Joined false (test (NameIs at wanted) NotEqual (pos 0)) (is_named_from wanted (at + 1) more))
-    else Joined false (test (NameIs at wanted) NotEqual (pos 0)) (is_named_from wanted (at + 1) more)
+    (Joined false (test (NameIs at required) NotEqual (pos 0)) (is_named_from required (at + 1) more))
+    else Joined false (test (NameIs at required) NotEqual (pos 0)) (is_named_from required (at + 1) more)
 
 abbrev pub PrependsName : Result (Unit {0}) CompileFault → List ℕ → ℕ → ℕ → Exits → List Insn → List Insn → Type 0
-PrependsName result wanted name end exits old new = (more : ℕ) (rest : List Insn) → word_count rest ≡ end
-    → Writes (is_named_from wanted (name + 1) more) exits rest old → Prepends result (is_named_from wanted name (suc more)) exits rest new
+PrependsName result required name end exits old new = (more : ℕ) (rest : List Insn) → word_count rest ≡ end
+    → Writes (is_named_from required (name + 1) more) exits rest old → Prepends result (is_named_from required name (suc more)) exits rest new
 
 abbrev pub is_named : List ℕ → ℕ → Question
 is_named text most = is_named_from (name_block text) 0 (suc most)
 
--- whether a name is the wanted one; or whether none is, and the segment has no more names
+-- whether a name is the required one; or whether none is, and the segment has no more names
 abbrev pub asks_has_name : List ℕ → ℕ → Bool → Question
 asks_has_name text most true = is_named text most
 asks_has_name text most false = Joined true (test Names LessOrEqual (pos most)) (Opposite (is_named text most))

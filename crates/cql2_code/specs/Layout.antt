@@ -58,15 +58,15 @@ abbrev pub into_record : WritableRegister
 into_record = record { number = 6; in_range = lit≤ tt }
 
 -- registers 7 to 9, which keep numbers over calls, by the level at which they are needed
-abbrev pub into_kept : ℕ → WritableRegister
-into_kept zero = record { number = 7; in_range = lit≤ tt }
-into_kept (suc zero) = record { number = 8; in_range = lit≤ tt }
-into_kept (suc (suc level)) = record { number = 9; in_range = lit≤ tt }
+abbrev pub into_saved : ℕ → WritableRegister
+into_saved zero = record { number = 7; in_range = lit≤ tt }
+into_saved (suc zero) = record { number = 8; in_range = lit≤ tt }
+into_saved (suc (suc level)) = record { number = 9; in_range = lit≤ tt }
 
-abbrev pub from_kept : ℕ → RegisterParts
-from_kept zero = record { number = 7; in_range = lit≤ tt }
-from_kept (suc zero) = record { number = 8; in_range = lit≤ tt }
-from_kept (suc (suc level)) = record { number = 9; in_range = lit≤ tt }
+abbrev pub from_saved : ℕ → RegisterParts
+from_saved zero = record { number = 7; in_range = lit≤ tt }
+from_saved (suc zero) = record { number = 8; in_range = lit≤ tt }
+from_saved (suc (suc level)) = record { number = 9; in_range = lit≤ tt }
 
 abbrev pub from_result : RegisterParts
 from_result = record { number = 0; in_range = lit≤ tt }
@@ -132,9 +132,9 @@ subject_code (Coordinate column) = move into_argument_1 (pos (coordinate_id colu
 subject_code Names = call helper.NameCount ∷ []
 subject_code Ranges = call helper.RangeCount ∷ []
 subject_code (InRange range house) = move into_argument_1 (pos range) ∷ set_number into_argument_2 house ∷ call helper.InRange ∷ []
-subject_code (NameIs name wanted) =
+subject_code (NameIs name required) =
     move into_argument_1 (pos name) ∷ copy into_argument_2 from_frame ∷ move_to_name ∷ move into_argument_3 (pos 30)
-    ∷ (store_name wanted ++ call helper.NameIs ∷ [])
+    ∷ (store_name required ++ call helper.NameIs ∷ [])
 subject_code (Load chunk at) = load chunk at ∷ []
 
 -- the comparison that holds exactly if this one doesn't
@@ -237,18 +237,18 @@ abbrev pub chosen_code : Option NumericColumn → List Insn
 chosen_code score = score_code score ++ answer_code 1
 
 -- an instruction that writes one of registers 7 to 9
-abbrev pub writes_kept : Insn → Bool
-writes_kept (Alu operation width destination source) = nat_le 7 destination.number
-writes_kept insn = false
+abbrev pub writes_saved : Insn → Bool
+writes_saved (Alu operation width destination source) = nat_le 7 destination.number
+writes_saved insn = false
 
 -- the code that sets registers 7 to 9, if the program keeps numbers in them
-abbrev pub kept_code : Bool → List Insn
-kept_code true = move (into_kept 0) (pos 0) ∷ move (into_kept 1) (pos 0) ∷ move (into_kept 2) (pos 0) ∷ []
-kept_code false = []
+abbrev pub saved_code : Bool → List Insn
+saved_code true = move (into_saved 0) (pos 0) ∷ move (into_saved 1) (pos 0) ∷ move (into_saved 2) (pos 0) ∷ []
+saved_code false = []
 
 -- a program begins by keeping the record's pointer in register 6
 abbrev pub begun : List Insn → List Insn
-begun code = copy into_record from_argument_1 ∷ (kept_code (list_any writes_kept code) ++ code)
+begun code = copy into_record from_argument_1 ∷ (saved_code (list_any writes_saved code) ++ code)
 
 -- the whole program
 abbrev pub program : Option NumericColumn → Question → List Insn

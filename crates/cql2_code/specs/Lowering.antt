@@ -1,5 +1,5 @@
 -- The questions whether a filter is true and whether it is false. Each has an answer, even if the filter is neither. NOT exchanges them.
-use Rattle.std.specs.Prelude.{◌≡◌, ◌≤◌, ℕ, zero, suc, ◌+◌, ◌-◌, ◌==◌, ℤ, pos, nat_le, Bool, true, false, not, List, [], ◌∷◌, length, map, replicate}
+use Rattle.std.specs.Prelude.{◌≤◌, ℕ, zero, suc, ◌+◌, ◌-◌, ◌==◌, ℤ, pos, nat_le, Bool, true, false, not, List, [], ◌∷◌, length, map, replicate}
 use Rattle.std.specs.Prelude.{Option, Some, None, MatchResult, Result, if◌then◌else◌}
 use Rattle.std.specs.Bool.{beq}
 use Rattle.std.specs.Int.{w64, cast_signed}
@@ -22,7 +22,7 @@ use Rattle.cql2.specs.declared.pattern.PatternPart.{PatternPart}
 use Rattle.cql2.specs.declared.pattern.PatternPart.TheVariants.{Exactly, Alike, One, Many}
 use Rattle.cql2_code.specs.Among.{among}
 use Rattle.cql2_code.specs.Grid.{grid}
-use Rattle.cql2_code.specs.Pieces.{pieces_of, taken}
+use Rattle.cql2_code.specs.Pieces.{least_length, pieces_of}
 use Rattle.cql2_code.specs.Question.{Question, Coded, Decided, Opposite, Joined, bytes_value}
 pub use Rattle.cql2_code.specs.Question.{if_asked}
 use Rattle.bpf_insn.specs.declared.instruction.Insn.{Insn}
@@ -103,7 +103,7 @@ bytes_where good (suc byte) = if good byte then byte ∷ bytes_where good byte e
 
 -- the bytes that are the same as this one but for what is ignored
 abbrev pub bytes_alike : Folding → ℕ → List ℕ
-bytes_alike folding wanted = bytes_where (λ byte. is_alike folding byte wanted) 256
+bytes_alike folding required = bytes_where (λ byte. is_alike folding byte required) 256
 
 -- a byte is one of several
 abbrev pub is_among : ℕ → List ℕ → Question
@@ -112,11 +112,11 @@ is_among at (byte ∷ []) = byte_test at Equal byte
 is_among at (byte ∷ next ∷ bytes) = Coded (among at byte (next ∷ bytes))
 
 -- a byte matches a part of a pattern
-abbrev pub is_wanted : ℕ → PatternPart → Question
-is_wanted at (Exactly byte) = byte_test at Equal byte
-is_wanted at (Alike folding wanted) = is_among at (bytes_alike folding wanted)
-is_wanted at One = Decided true
-is_wanted at Many = Decided true
+abbrev pub is_required : ℕ → PatternPart → Question
+is_required at (Exactly byte) = byte_test at Equal byte
+is_required at (Alike folding required) = is_among at (bytes_alike folding required)
+is_required at One = Decided true
+is_required at Many = Decided true
 
 -- the bytes of a piece that wants each of them exactly
 abbrev pub exact_bytes : List PatternPart → Option (List ℕ)
@@ -126,35 +126,35 @@ exact_bytes (Exactly byte ∷ piece) = before byte (exact_bytes piece)
     before : ℕ → Option (List ℕ) → Option (List ℕ)
     before byte None = None
     before byte (Some bytes) = Some (byte ∷ bytes)
-exact_bytes (Alike folding wanted ∷ piece) = None
+exact_bytes (Alike folding required ∷ piece) = None
 exact_bytes (One ∷ piece) = None
 exact_bytes (Many ∷ piece) = None
 
-abbrev pub is_each_wanted : ℕ → List PatternPart → Question
-is_each_wanted at [] = Decided true
-is_each_wanted at (wanted ∷ []) = is_wanted at wanted
-is_each_wanted at (wanted ∷ next ∷ piece) = Joined true (is_wanted at wanted) (is_each_wanted (at + 1) (next ∷ piece))
+abbrev pub is_each_required : ℕ → List PatternPart → Question
+is_each_required at [] = Decided true
+is_each_required at (required ∷ []) = is_required at required
+is_each_required at (required ∷ next ∷ piece) = Joined true (is_required at required) (is_each_required (at + 1) (next ∷ piece))
 
-abbrev pub are_wanted : ℕ → List PatternPart → Question
-are_wanted at piece = by_exact (exact_bytes piece)
+abbrev pub are_required : ℕ → List PatternPart → Question
+are_required at piece = by_exact (exact_bytes piece)
   where
     by_exact : Option (List ℕ) → Question
     by_exact (Some bytes) = has_bytes at bytes
-    by_exact None = is_each_wanted at piece
+    by_exact None = is_each_required at piece
 
 -- the last byte of a piece is not a blank
 abbrev pub is_filled : PatternPart → Bool
 is_filled (Exactly byte) = not (byte == 32)
-is_filled (Alike folding wanted) = not (is_alike folding 32 wanted)
+is_filled (Alike folding required) = not (is_alike folding 32 required)
 is_filled One = false
 is_filled Many = false
 
 abbrev pub ends_filled : List PatternPart → Bool
 ends_filled [] = false
-ends_filled (wanted ∷ []) = is_filled wanted
-ends_filled (wanted ∷ next ∷ piece) = ends_filled (next ∷ piece)
+ends_filled (required ∷ []) = is_filled required
+ends_filled (required ∷ next ∷ piece) = ends_filled (next ∷ piece)
 
--- The question after the wanted bytes, whose end is given. If no more bytes may follow, the rest of the field must be blank. If the last wanted
+-- The question after the required bytes, whose end is given. If no more bytes may follow, the rest of the field must be blank. If the last required
 -- byte may be a blank, the text is long enough only if the field isn't blank from that byte on.
 abbrev pub ends_so : Bool → Bool → Field → ℕ → Option Question
 ends_so true true field count = None
@@ -170,18 +170,18 @@ both first (Some second) = Joined true first second
 
 -- the exits of the first question, once the code of the second one, if there is one, is written
 abbrev pub WritesBefore : Option Question → Exits → Exits → List Insn → List Insn → Type 0
-WritesBefore second exits first old new = (wanted : Question) (all : List Insn)
-    → Writes wanted first new all → Writes (both wanted second) exits old all
+WritesBefore second exits first old new = (required : Question) (all : List Insn)
+    → Writes required first new all → Writes (both required second) exits old all
 
 -- the code of the second question is written, or refused whatever the first one is
 abbrev pub PrependsBefore : Result Exits CompileFault → Option Question → Exits → List Insn → List Insn → Type 0
 PrependsBefore result second exits old new = MatchResult result (λ first. WritesBefore second exits first old new)
-    (λ fault. (wanted : Question) → Refuses (both wanted second) exits old fault)
+    (λ fault. (required : Question) → Refuses (both required second) exits old fault)
 
 -- a pattern's last piece is in a field from a byte on, which isn't blank there: the text ends after it, or later if the pattern is open
 abbrev pub ends_at : Field → List PatternPart → Bool → ℕ → Question
 ends_at field piece is_open from =
-    both (are_wanted (field.offset + from) piece) (ends_so is_open (ends_filled piece) field (from + length piece))
+    both (are_required (field.offset + from) piece) (ends_so is_open (ends_filled piece) field (from + length piece))
 
 -- a field isn't blank and matches a pattern of one piece
 abbrev pub is_piece : Field → List PatternPart → Bool → Question
@@ -190,7 +190,7 @@ is_piece field piece is_open = if nat_le (length piece) field.width then ends_at
 -- a piece after a `%` is in a field from a byte on
 abbrev pub cell : Field → List PatternPart → Bool → Bool → ℕ → Question
 cell field piece true is_open at = ends_at field piece is_open at
-cell field piece false is_open at = are_wanted (field.offset + at) piece
+cell field piece false is_open at = are_required (field.offset + at) piece
 
 -- no piece follows
 abbrev pub is_last : List (List PatternPart) → Bool
@@ -209,12 +209,12 @@ abbrev pub are_pieces : Field → List PatternPart → List (List PatternPart) �
 are_pieces field first [] is_open total = is_piece field first is_open
 are_pieces field first (piece ∷ others) is_open total =
     if nat_le total field.width
-    then Joined true (are_wanted field.offset first)
+    then Joined true (are_required field.offset first)
     (Coded (grid (rows_of field is_open (length first) (piece ∷ others)) (suc (field.width - total))))
     else Decided false
 
 abbrev pub is_like : Field → List PatternPart → Question
-is_like field pattern = let pieces = pieces_of pattern in are_pieces field pieces.first pieces.others pieces.is_open (taken pattern)
+is_like field pattern = let pieces = pieces_of pattern in are_pieces field pieces.first pieces.others pieces.is_open (least_length pattern)
 
 -- the rest of a field, given by its offset and length, is less than a text
 abbrev pub is_less : ℕ → ℕ → List ℕ → Question

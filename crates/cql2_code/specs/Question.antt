@@ -73,13 +73,13 @@ value (Coordinate column) segment = coordinate segment.bytes (coordinate_id colu
 value Names segment = length segment.names
 value Ranges segment = length (ranges_of segment)
 value (InRange range house) segment = sides house (slice_get (ranges_of segment) range)
-value (NameIs name wanted) segment = truth (is_name (take NAME_LENGTH wanted) (slice_get (names_of segment) name))
+value (NameIs name required) segment = truth (is_name (take NAME_LENGTH required) (slice_get (names_of segment) name))
 value (Load chunk at) segment = bytes_value (take (chunk_length chunk) (drop at segment.bytes))
 
 -- A subject can be read: a chunk lies within the record, and numbers and bytes are within their types' ranges.
 abbrev pub IsSoundSubject : Subject → Type 0
 IsSoundSubject (InRange range house) = (range < 2 ^ 16) × (house < 2 ^ 64)
-IsSoundSubject (NameIs name wanted) = (name < 2 ^ 16) × AreBytes 32 wanted
+IsSoundSubject (NameIs name required) = (name < 2 ^ 16) × AreBytes 32 required
 IsSoundSubject (Load chunk at) = at + chunk_length chunk ≤ RECORD_LENGTH
 IsSoundSubject subject = Unit {0}
 

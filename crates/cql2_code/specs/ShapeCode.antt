@@ -31,7 +31,7 @@ use Rattle.cql2.specs.declared.geometry.Ring.{Ring}
 use Rattle.cql2.specs.declared.geometry.Shape.{Shape}
 use Rattle.cql2.specs.declared.geometry.Shape.TheVariants as shape
 use Rattle.tl_segments.specs.Segment.{SegmentParts}
-use Rattle.cql2_code.specs.Layout.{comparison_code, copy, from_argument_1, from_kept, from_result, into_argument_1, into_kept, into_result}
+use Rattle.cql2_code.specs.Layout.{comparison_code, copy, from_argument_1, from_saved, from_result, into_argument_1, into_saved, into_result}
 use Rattle.cql2_code.specs.Layout.{move, subject_code, wide_load}
 use Rattle.cql2_code.specs.Question.{Block}
 use Rattle.cql2_code.specs.Skipping.{Compared, skip, turned, unless, unless_both}
@@ -70,13 +70,13 @@ abbrev pub from_end_latitude : Register
 from_end_latitude = record { number = 5; in_range = lit≤ tt }
 
 abbrev pub from_start_longitude : Register
-from_start_longitude = from_kept 0
+from_start_longitude = from_saved 0
 
 abbrev pub from_start_latitude : Register
-from_start_latitude = from_kept 1
+from_start_latitude = from_saved 1
 
 abbrev pub from_end_longitude : Register
-from_end_longitude = from_kept 2
+from_end_longitude = from_saved 2
 
 abbrev pub combine : Operation → WritableRegister → Register → Insn
 combine operation register other = Alu operation Bits64 register (source.Register other)
@@ -325,7 +325,7 @@ abbrev pub read_coordinate : CoordinateColumn → List Insn
 read_coordinate column = subject_code (subject.Coordinate column)
 
 abbrev pub keep_coordinate : ℕ → CoordinateColumn → List Insn
-keep_coordinate level column = read_coordinate column ++ copy (into_kept level) from_result ∷ []
+keep_coordinate level column = read_coordinate column ++ copy (into_saved level) from_result ∷ []
 
 -- The other registers are set, in an order that leaves no doubt which of them are set before an instruction.
 abbrev pub set_registers : List Insn

@@ -20,7 +20,7 @@ ghost use Rattle.cql2_code.specs.declared.bounds.Rounding.TheVariants as roundin
 
 use crate::edges::{EdgeLimits, marks_unless_beyond, point_across};
 use crate::fault::CompileFault;
-use crate::instructions::{copy, from_kept, from_result, into_argument_1, wide_load};
+use crate::instructions::{copy, from_result, from_saved, into_argument_1, wide_load};
 use crate::question::opposite;
 use crate::shape_instructions::{
     combine, combine_number, from_end_latitude, from_first, from_second, from_side, into_first,
@@ -86,8 +86,8 @@ fn prepend_ends<A: Allocator + Copy>(
 ) -> Result<(), CompileFault>
     ensures { IsPrepended result (ends_code bounds ++ code.old) code.new }
 {
-    prepend_end_in(code, bounds, from_kept(2), from_end_latitude())?;
-    prepend_end_in(code, bounds, from_kept(0), from_kept(1))
+    prepend_end_in(code, bounds, from_saved(2), from_end_latitude())?;
+    prepend_end_in(code, bounds, from_saved(0), from_saved(1))
 }
 
 /// Writes the code that marks that an end of the line lies in a box, by that end's registers.
@@ -332,12 +332,12 @@ fn add_across(longitude: i32, latitude: i32) -> [Insn; 8]
     ensures { result ≡ add_across (record { longitude = longitude; latitude = latitude }) }
 {
     [
-        copy(into_second(), from_kept(2)),
-        combine(Operation::Subtract, into_second(), from_kept(0)),
+        copy(into_second(), from_saved(2)),
+        combine(Operation::Subtract, into_second(), from_saved(0)),
         combine_number(Operation::Multiply, into_second(), latitude),
         combine(Operation::Add, into_first(), from_second()),
         copy(into_second(), from_end_latitude()),
-        combine(Operation::Subtract, into_second(), from_kept(1)),
+        combine(Operation::Subtract, into_second(), from_saved(1)),
         combine_number(Operation::Multiply, into_second(), longitude),
         combine(Operation::Subtract, into_first(), from_second()),
     ]

@@ -18,8 +18,8 @@ use crate::fault::CompileFault;
 use crate::field::field_of;
 use crate::function::prepend_function;
 use crate::instructions::{
-    call, copy, from_argument_1, from_result, into_argument_1, into_kept, into_record, into_result,
-    move_number,
+    call, copy, from_argument_1, from_result, into_argument_1, into_record, into_result,
+    into_saved, move_number,
 };
 use crate::numbers::{has_value, number_of, prepend_number};
 use crate::question::{Exits, opposite};
@@ -62,10 +62,10 @@ fn prepend_beginning<A: Allocator + Copy>(code: &mut CodeSuffix<A>) -> Result<()
     ensures { IsPrepended result (begun code.old) code.new }
 {
     // Set at the start, so that these registers hold numbers everywhere and the proof of acceptance can look at one instruction at a time.
-    if code.writes_kept() {
-        code.prepend(move_number(into_kept(2), 0))?;
-        code.prepend(move_number(into_kept(1), 0))?;
-        code.prepend(move_number(into_kept(0), 0))?;
+    if code.writes_saved() {
+        code.prepend(move_number(into_saved(2), 0))?;
+        code.prepend(move_number(into_saved(1), 0))?;
+        code.prepend(move_number(into_saved(0), 0))?;
     }
     code.prepend(copy(into_record(), from_argument_1()))
 }
@@ -200,7 +200,7 @@ fn prepend_is_null<A: Allocator + Copy>(
     ensures { Prepends result (if_asked (is_null column) asked) exits code.old code.new }
 {
     match column {
-        Column::Numeric(column) => code.prepend_test(has_value(column), exits.asked(!asked)),
-        Column::Text(column) => prepend_blank_field(code, field_of(column), exits.asked(asked)),
+        Column::Numeric(column) => code.prepend_test(has_value(column), exits.if_asked(!asked)),
+        Column::Text(column) => prepend_blank_field(code, field_of(column), exits.if_asked(asked)),
     }
 }

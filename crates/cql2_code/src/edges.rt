@@ -20,7 +20,7 @@ ghost use Rattle.cql2_code.specs.ShapeCode.{limits_of, ray_code, rays_code, side
 ghost use Rattle.cql2_code.specs.Layout.{IsPrepended, wide_load};
 
 use crate::fault::CompileFault;
-use crate::instructions::{copy, from_kept, from_result, into_argument_1, wide_load};
+use crate::instructions::{copy, from_result, from_saved, into_argument_1, wide_load};
 use crate::shape_instructions::{
     combine, combine_number, from_end_latitude, from_first, from_second, from_side, into_first,
     into_second, into_side, skip, skip_by_number,
@@ -161,9 +161,9 @@ fn prepend_sides<A: Allocator + Copy>(
     ensures { IsPrepended result (sides_code (edge_of edge.start edge.end) ++ code.old) code.new }
 {
     code.prepend(load_start(edge))?;
-    prepend_across(code, edge, from_kept(2), from_end_latitude())?;
+    prepend_across(code, edge, from_saved(2), from_end_latitude())?;
     code.prepend(copy(into_side(), from_first()))?;
-    prepend_across(code, edge, from_kept(0), from_kept(1))
+    prepend_across(code, edge, from_saved(0), from_saved(1))
 }
 
 /// Returns the code that exchanges a mark if the ray from an end of the line crosses an edge.
@@ -187,7 +187,7 @@ fn prepend_rays<A: Allocator + Copy>(
     ensures { IsPrepended result (rays_code (edge_of edge.start edge.end) ++ code.old) code.new }
 {
     code.prepend_all(&ray(edge, from_end_latitude(), from_first(), 2))?;
-    code.prepend_all(&ray(edge, from_kept(1), from_side(), 1))
+    code.prepend_all(&ray(edge, from_saved(1), from_side(), 1))
 }
 
 /// Returns the code that leaves in register 3 how far a point lies across the line.
@@ -195,11 +195,11 @@ pub(crate) fn point_across(longitude: i32, latitude: i32) -> [Insn; 7]
     ensures { result ≡ point_across (record { longitude = longitude; latitude = latitude }) }
 {
     [
-        copy(into_first(), from_kept(2)),
-        combine(Operation::Subtract, into_first(), from_kept(0)),
+        copy(into_first(), from_saved(2)),
+        combine(Operation::Subtract, into_first(), from_saved(0)),
         combine_number(Operation::Multiply, into_first(), latitude),
         copy(into_second(), from_end_latitude()),
-        combine(Operation::Subtract, into_second(), from_kept(1)),
+        combine(Operation::Subtract, into_second(), from_saved(1)),
         combine_number(Operation::Multiply, into_second(), longitude),
         combine(Operation::Subtract, into_first(), from_second()),
     ]
@@ -213,7 +213,7 @@ fn vertex_across(vertex: Vertex) -> [Insn; 7]
 }
 
 /// Returns the code that skips words if the numbers in registers 2 and 3 are both greater than another, or both less.
-fn beside(other: Register, words: u8) -> [Insn; 4]
+fn skip_beside(other: Register, words: u8) -> [Insn; 4]
     requires { words ≤ 28 }
     ensures { result ≡ beside_by other words }
 {
@@ -236,20 +236,20 @@ pub(crate) fn marks_unless_beyond(limits: EdgeLimits) -> [Insn; 9]
         north,
     } = limits;
     [
-        skip_by_number(Comparison::GreaterOrEqual, from_kept(0), west, 1),
-        skip_by_number(Comparison::Less, from_kept(2), west, 7),
-        skip_by_number(Comparison::LessOrEqual, from_kept(0), east, 1),
-        skip_by_number(Comparison::Greater, from_kept(2), east, 5),
-        skip_by_number(Comparison::GreaterOrEqual, from_kept(1), south, 1),
+        skip_by_number(Comparison::GreaterOrEqual, from_saved(0), west, 1),
+        skip_by_number(Comparison::Less, from_saved(2), west, 7),
+        skip_by_number(Comparison::LessOrEqual, from_saved(0), east, 1),
+        skip_by_number(Comparison::Greater, from_saved(2), east, 5),
+        skip_by_number(Comparison::GreaterOrEqual, from_saved(1), south, 1),
         skip_by_number(Comparison::Less, from_end_latitude(), south, 3),
-        skip_by_number(Comparison::LessOrEqual, from_kept(1), north, 1),
+        skip_by_number(Comparison::LessOrEqual, from_saved(1), north, 1),
         skip_by_number(Comparison::Greater, from_end_latitude(), north, 1),
         combine_number(Operation::Or, into_argument_1(), 4),
     ]
 }
 
 /// Returns the code that marks that the line meets an edge, unless it lies beyond the edge in one of the four directions.
-fn apart(edge: BoxEdge) -> [Insn; 9]
+fn mark_meeting(edge: BoxEdge) -> [Insn; 9]
     ensures { result ≡ unless_beyond (limits_of (edge_of edge.start edge.end)) marks_met }
 {
     marks_unless_beyond(limits_of(edge))
@@ -262,14 +262,14 @@ fn prepend_meets<A: Allocator + Copy>(
 ) -> Result<(), CompileFault>
     ensures { IsPrepended result (meets_code (edge_of edge.start edge.end) ++ code.old) code.new }
 {
-    code.prepend_all(&apart(edge))?;
+    code.prepend_all(&mark_meeting(edge))?;
     // Past the marks, which take 9 words.
-    code.prepend_all(&beside(from_result(), 9))?;
+    code.prepend_all(&skip_beside(from_result(), 9))?;
     code.prepend_all(&vertex_across(edge.end))?;
     code.prepend(copy(into_side(), from_first()))?;
     code.prepend_all(&vertex_across(edge.start))?;
     // Past everything above: 7 + 1 + 7 + 4 + 9 words.
-    code.prepend_all(&beside(from_second(), 28))
+    code.prepend_all(&skip_beside(from_second(), 28))
 }
 
 /// Writes the code of an edge.

@@ -5,12 +5,12 @@
 //! bits and one jump decides. An operand that is computed first waits in register 7, 8 or 9, which survive the calls of helper functions; a level
 //! says which. Three are enough: one for the first side of a comparison, two for an expression.
 //!
-//! Always: the value of an expression ends in register 0, and what is kept at lower levels is unchanged. Recursion follows the expression, whose
+//! Always: the value of an expression ends in register 0, and what is saved at lower levels is unchanged. Recursion follows the expression, whose
 //! number of operators has its limit.
 ghost use Rattle.std.specs.Prelude.{◌≡◌, ◌≤◌, ◌+◌, ◌++◌, suc, true};
 ghost use Rattle.bpf_insn.specs.Code.{word_count};
-ghost use Rattle.cql2.specs.Expression.{depth, kept_for};
-ghost use Rattle.cql2_code.specs.Expressions.{combine_kept, combine_literal, compares_difference, compares_numbers, has_second, is_divisor, is_known};
+ghost use Rattle.cql2.specs.Expression.{depth, saved_for};
+ghost use Rattle.cql2_code.specs.Expressions.{combine_saved, combine_literal, compares_difference, compares_numbers, has_second, is_divisor, is_known};
 ghost use Rattle.cql2_code.specs.Expressions.{is_not_zero, number_code, second_code};
 ghost use Rattle.cql2_code.specs.Layout.{IsPrepended, Prepends};
 ghost use Rattle.cql2_code.specs.Question.{Joined};
@@ -18,7 +18,7 @@ ghost use Rattle.cql2_code.specs.Question.{Joined};
 use crate::arithmetic::{negate, operate, set_literal};
 use crate::fault::CompileFault;
 use crate::instructions::{
-    copy, from_argument_1, from_kept, from_result, into_argument_1, into_kept, into_result,
+    copy, from_argument_1, from_result, from_saved, into_argument_1, into_result, into_saved,
     wide_load,
 };
 use crate::numbers::{has_value, number_of};
@@ -38,7 +38,7 @@ pub(crate) fn prepend_numbers<A: Allocator + Copy>(
 ) -> Result<(), CompileFault>
     requires inside { exits.skip ≤ word_count code.old }
     requires first { depth first.now ≤ 3 }
-    requires second { kept_for second.now (depth second.now) ≤ 3 }
+    requires second { saved_for second.now (depth second.now) ≤ 3 }
     ensures { Prepends result (compares_numbers first.now comparison second.now) exits code.old code.new }
 {
     let words = code.words();
@@ -57,7 +57,7 @@ fn prepend_both<A: Allocator + Copy>(
 ) -> Result<(), CompileFault>
     requires inside { exits.skip ≤ word_count code.old }
     requires first { depth first.now ≤ 3 }
-    requires second { kept_for second.now (depth second.now) ≤ 3 }
+    requires second { saved_for second.now (depth second.now) ≤ 3 }
     ensures { Prepends result (Joined true (is_known second.now) (compares_difference first.now comparison second.now)) exits code.old code.new }
 {
     let words = code.words();
@@ -76,7 +76,7 @@ fn prepend_difference<A: Allocator + Copy>(
 ) -> Result<(), CompileFault>
     requires inside { exits.skip ≤ word_count code.old }
     requires first { depth first.now ≤ 3 }
-    requires second { kept_for second.now (depth second.now) ≤ 3 }
+    requires second { saved_for second.now (depth second.now) ≤ 3 }
     ensures { Prepends result (compares_difference first.now comparison second.now) exits code.old code.new }
 {
     code.prepend_zero_comparison(comparison, exits)?;
@@ -117,17 +117,17 @@ fn prepend_second<A: Allocator + Copy>(
     level: u8,
     second: &Expression<A>,
 ) -> Result<(), CompileFault>
-    requires { level + kept_for second.now (depth second.now) ≤ 3 }
+    requires { level + saved_for second.now (depth second.now) ≤ 3 }
     ensures { IsPrepended result (second_code operator level second.now (number_code second.now (suc level)) ++ code.old) code.new }
 {
     // A literal needs no register.
     if let Expression::Literal(literal) = second {
         return prepend_literal(code, operator, *literal);
     }
-    prepend_kept(code, operator, level)?;
-    // Kept in a register that survives the calls which compute the first operand.
+    prepend_saved(code, operator, level)?;
+    // Saved in a register that survives the calls which compute the second operand.
     prepend_expression(code, second, level + 1)?;
-    code.prepend(copy(into_kept(level), from_result()))
+    code.prepend(copy(into_saved(level), from_result()))
 }
 
 /// Writes the code that combines register 0 with a literal.
@@ -148,16 +148,16 @@ fn prepend_literal<A: Allocator + Copy>(
     }
 }
 
-/// Writes the code that combines the number kept at a level with register 0.
-pub(crate) fn prepend_kept<A: Allocator + Copy>(
+/// Writes the code that combines the number saved at a level with register 0.
+pub(crate) fn prepend_saved<A: Allocator + Copy>(
     code: &mut CodeSuffix<A>,
     operator: Operator,
     level: u8,
 ) -> Result<(), CompileFault>
-    ensures { IsPrepended result (combine_kept operator level ++ code.old) code.new }
+    ensures { IsPrepended result (combine_saved operator level ++ code.old) code.new }
 {
     code.prepend(operate(operator, Source::Register(from_argument_1())))?;
-    code.prepend(copy(into_result(), from_kept(level)))?;
+    code.prepend(copy(into_result(), from_saved(level)))?;
     code.prepend(copy(into_argument_1(), from_result()))
 }
 

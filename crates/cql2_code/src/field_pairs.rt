@@ -7,10 +7,10 @@ ghost use Rattle.cql2_code.specs.Lowering.{IsTextField, compares_fields, is_less
 ghost use Rattle.tl_records.specs.declared.layout.TheConstants.{RECORD_LENGTH};
 ghost use Rattle.tl_segments.specs.declared.name.TheConstants.{NAME_LENGTH};
 
-use crate::expressions::prepend_kept;
+use crate::expressions::prepend_saved;
 use crate::fault::CompileFault;
 use crate::field::Field;
-use crate::instructions::{copy, from_result, into_kept, load};
+use crate::instructions::{copy, from_result, into_saved, load};
 use crate::question::{Chunk, Exits};
 use crate::suffix::CodeSuffix;
 use crate::texts::prepend_blanks;
@@ -32,11 +32,16 @@ pub(crate) fn prepend_fields<A: Allocator + Copy>(
 {
     match comparison {
         Comparison::Equal => prepend_same_field(code, first, second, exits),
-        Comparison::NotEqual => prepend_same_field(code, first, second, exits.asked(false)),
+        Comparison::NotEqual => prepend_same_field(code, first, second, exits.if_asked(false)),
         Comparison::Less => prepend_less_field(code, first, second, exits),
-        Comparison::GreaterOrEqual => prepend_less_field(code, first, second, exits.asked(false)),
+        Comparison::GreaterOrEqual => prepend_less_field(
+            code,
+            first,
+            second,
+            exits.if_asked(false),
+        ),
         Comparison::Greater => prepend_less_field(code, second, first, exits),
-        Comparison::LessOrEqual => prepend_less_field(code, second, first, exits.asked(false)),
+        Comparison::LessOrEqual => prepend_less_field(code, second, first, exits.if_asked(false)),
     }
 }
 
@@ -133,7 +138,7 @@ fn prepend_less<A: Allocator + Copy>(
         return code.prepend_constant(false, exits);
     }
     if left == 0 {
-        return prepend_blanks(code, other, more, exits.asked(false));
+        return prepend_blanks(code, other, more, exits.if_asked(false));
     }
     let words = code.words();
     prepend_less(code, at + 1, left - 1, other + 1, more - 1, exits)?;
@@ -144,7 +149,7 @@ fn prepend_less<A: Allocator + Copy>(
     let blank = code.exits_before(words, false, exits);
     prepend_blanks(code, at, left, blank)?;
     let filled = code.exits_before(words, true, exits);
-    prepend_blanks(code, other, more, filled.asked(false))
+    prepend_blanks(code, other, more, filled.if_asked(false))
 }
 
 /// Writes the code that compares two bytes.
@@ -170,8 +175,8 @@ fn prepend_pair_code<A: Allocator + Copy>(
 ) -> Result<(), CompileFault>
     ensures { IsPrepended result (pair_code at other ++ code.old) code.new }
 {
-    prepend_kept(code, Operator::Subtract, 0)?;
+    prepend_saved(code, Operator::Subtract, 0)?;
     code.prepend(load(Chunk::Byte, other))?;
-    code.prepend(copy(into_kept(0), from_result()))?;
+    code.prepend(copy(into_saved(0), from_result()))?;
     code.prepend(load(Chunk::Byte, at))
 }

@@ -57,8 +57,8 @@ pub(crate) fn into_record() -> WritableRegister
 }
 
 /// Returns the register that keeps the numbers of a level, 7, 8 or 9, for writing.
-pub(crate) fn into_kept(level: u8) -> WritableRegister
-    ensures { result ≡ layout.into_kept level }
+pub(crate) fn into_saved(level: u8) -> WritableRegister
+    ensures { result ≡ layout.into_saved level }
 {
     match level {
         0 => WritableRegister { number: 7 },
@@ -68,8 +68,8 @@ pub(crate) fn into_kept(level: u8) -> WritableRegister
 }
 
 /// Returns the register that keeps the numbers of a level, 7, 8 or 9, for reading.
-pub(crate) fn from_kept(level: u8) -> Register
-    ensures { result ≡ layout.from_kept level }
+pub(crate) fn from_saved(level: u8) -> Register
+    ensures { result ≡ layout.from_saved level }
 {
     match level {
         0 => Register { number: 7 },
@@ -79,8 +79,8 @@ pub(crate) fn from_kept(level: u8) -> Register
 }
 
 /// Returns whether an instruction writes a register that keeps numbers.
-pub(crate) fn writes_kept(insn: Insn) -> bool
-    ensures { result ≡ layout.writes_kept insn }
+pub(crate) fn writes_saved(insn: Insn) -> bool
+    ensures { result ≡ layout.writes_saved insn }
 {
     match insn {
         Insn::Alu { destination, .. } => destination.number >= 7,

@@ -12,7 +12,7 @@ ghost use Rattle.cql2_code.specs.ShapeCode.{keep_coordinate, lead_code, line_cod
 
 use crate::fault::CompileFault;
 use crate::instructions::{
-    copy, from_kept, from_result, into_argument_1, into_kept, into_result, move_number, wide_load,
+    copy, from_result, from_saved, into_argument_1, into_result, into_saved, move_number, wide_load,
 };
 use crate::numbers::has_value;
 use crate::question::{Exits, Subject};
@@ -79,15 +79,15 @@ fn extend_side() -> Insn
     }
 }
 
-/// Writes the code that reads a coordinate of the line and keeps it at a level.
-fn prepend_kept<A: Allocator + Copy>(
+/// Writes the code that reads a coordinate of the line and saves it at a level.
+fn prepend_coordinate<A: Allocator + Copy>(
     code: &mut CodeSuffix<A>,
     level: u8,
     column: CoordinateColumn,
 ) -> Result<(), CompileFault>
     ensures { IsPrepended result (keep_coordinate level column ++ code.old) code.new }
 {
-    code.prepend(copy(into_kept(level), from_result()))?;
+    code.prepend(copy(into_saved(level), from_result()))?;
     code.prepend_subject(Subject::Coordinate(column))
 }
 
@@ -100,9 +100,9 @@ pub(crate) fn prepend_coordinates<A: Allocator + Copy>(
 {
     code.prepend_all(&set_registers())?;
     code.prepend_subject(Subject::Coordinate(end_latitude(extent)))?;
-    prepend_kept(code, 2, end_longitude(extent))?;
-    prepend_kept(code, 1, CoordinateColumn::Frlat)?;
-    prepend_kept(code, 0, CoordinateColumn::Frlong)
+    prepend_coordinate(code, 2, end_longitude(extent))?;
+    prepend_coordinate(code, 1, CoordinateColumn::Frlat)?;
+    prepend_coordinate(code, 0, CoordinateColumn::Frlong)
 }
 
 /// Returns the code that leaves how far the line's start lies across it in register 0.
@@ -110,12 +110,12 @@ fn lead() -> [Insn; 8]
     ensures { result ≡ lead_code }
 {
     [
-        copy(into_first(), from_kept(2)),
-        combine(Operation::Subtract, into_first(), from_kept(0)),
-        combine(Operation::Multiply, into_first(), from_kept(1)),
+        copy(into_first(), from_saved(2)),
+        combine(Operation::Subtract, into_first(), from_saved(0)),
+        combine(Operation::Multiply, into_first(), from_saved(1)),
         copy(into_second(), from_end_latitude()),
-        combine(Operation::Subtract, into_second(), from_kept(1)),
-        combine(Operation::Multiply, into_second(), from_kept(0)),
+        combine(Operation::Subtract, into_second(), from_saved(1)),
+        combine(Operation::Multiply, into_second(), from_saved(0)),
         combine(Operation::Subtract, into_first(), from_second()),
         copy(into_result(), from_first()),
     ]

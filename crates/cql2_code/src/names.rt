@@ -23,7 +23,7 @@ pub(crate) fn prepend_has_number<A: Allocator + Copy>(
     requires { exits.skip ≤ word_count code.old }
     ensures { Prepends result (asks_has_number house asked) exits code.old code.new }
 {
-    let exits = exits.asked(asked);
+    let exits = exits.if_asked(asked);
     let end = code.words();
     code.prepend_constant(false, exits)?;
     // From the last range to the first, as code is written back to front.
@@ -72,7 +72,7 @@ fn checks_for_end(at: u16) -> bool
     matches!(at, 1 | 2 | 4 | 8 | 16 | 32 | 64 | 128 | 256 | 512)
 }
 
-/// Writes the code that asks whether a name is the wanted one, or whether none is and the segment has no more names.
+/// Writes the code that asks whether a name is the required one, or whether none is and the segment has no more names.
 pub(crate) fn prepend_has_name<A: Allocator + Copy>(
     code: &mut CodeSuffix<A>,
     text: &[u8],
@@ -85,7 +85,7 @@ pub(crate) fn prepend_has_name<A: Allocator + Copy>(
     ensures { Prepends result (asks_has_name text.now most asked) exits code.old code.new }
 {
     let words = code.words();
-    prepend_named(code, &name_block(text), most, exits.asked(asked))?;
+    prepend_named(code, &name_block(text), most, exits.if_asked(asked))?;
     if asked {
         return Ok(());
     }
@@ -109,43 +109,43 @@ fn name_block(text: &[u8]) -> [u8; 32]
     block
 }
 
-/// Writes the code that asks whether a name up to the last one is the wanted one.
+/// Writes the code that asks whether a name up to the last one is the required one.
 fn prepend_named<A: Allocator + Copy>(
     code: &mut CodeSuffix<A>,
-    wanted: &[u8; 32],
+    required: &[u8; 32],
     most: u16,
     exits: Exits,
 ) -> Result<(), CompileFault>
     requires { exits.skip ≤ word_count code.old }
-    ensures { Prepends result (is_named_from wanted.now 0 (suc most)) exits code.old code.new }
+    ensures { Prepends result (is_named_from required.now 0 (suc most)) exits code.old code.new }
 {
     let end = code.words();
     code.prepend_constant(false, exits)?;
     for name in (0..=most).rev() {
-        prepend_name(code, wanted, name, end, exits)?;
+        prepend_name(code, required, name, end, exits)?;
     }
     Ok(())
 }
 
-/// Writes the code that asks whether a name is the wanted one, before the code that asks about later names.
+/// Writes the code that asks whether a name is the required one, before the code that asks about later names.
 fn prepend_name<A: Allocator + Copy>(
     code: &mut CodeSuffix<A>,
-    wanted: &[u8; 32],
+    required: &[u8; 32],
     name: u16,
     end: usize,
     exits: Exits,
 ) -> Result<(), CompileFault>
     requires end { end ≤ word_count code.old }
     requires inside { exits.skip ≤ end }
-    ensures { PrependsName result wanted.now name end exits code.old code.new }
+    ensures { PrependsName result required.now name end exits code.old code.new }
 {
-    let is_wanted = Test {
-        subject: Subject::NameIs(name, *wanted),
+    let is_required = Test {
+        subject: Subject::NameIs(name, *required),
         comparison: Comparison::NotEqual,
         operand: 0,
     };
     let before = code.exits_before(end, false, exits);
-    code.prepend_test(is_wanted, before)?;
+    code.prepend_test(is_required, before)?;
     if !checks_for_end(name) {
         return Ok(());
     }

@@ -8,12 +8,12 @@ ghost use Rattle.bpf_insn.specs.Code.{word_count};
 ghost use Rattle.cql2_code.specs.Grid.{IsLaid, grid, lay_row, lay_rows};
 ghost use Rattle.cql2_code.specs.Layout.{Prepends};
 ghost use Rattle.cql2_code.specs.Lowering.{IsTextField, cell, ends_at, is_like, is_piece, rows_of};
-ghost use Rattle.cql2_code.specs.Pieces.{pieces_of, taken};
+ghost use Rattle.cql2_code.specs.Pieces.{least_length, pieces_of};
 ghost use Rattle.cql2_code.specs.Question.{Coded};
 
 use crate::fault::CompileFault;
 use crate::field::Field;
-use crate::pieces::{ends_filled, first_length, prepend_are_wanted, taken};
+use crate::pieces::{ends_filled, first_length, least_length, prepend_are_required};
 use crate::question::Exits;
 use crate::suffix::CodeSuffix;
 use crate::texts::{Ending, prepend_ending};
@@ -36,10 +36,10 @@ pub(crate) fn prepend_pattern<A: Allocator + Copy>(
     ensures { Prepends result (is_like field pattern.now) exits code.old code.new }
 {
     let (first, others) = pattern.split_at(first_length(pattern));
-    if taken(others) == 0 {
+    if least_length(others) == 0 {
         return prepend_piece(code, field, first, !others.is_empty(), exits);
     }
-    let total = taken(pattern);
+    let total = least_length(pattern);
     let width = usize::from(field.width);
     if total > width {
         return code.prepend_constant(false, exits);
@@ -52,7 +52,7 @@ pub(crate) fn prepend_pattern<A: Allocator + Copy>(
     };
     prepend_search(code, search, first.len() as u8, others, width - total + 1)?;
     let exits = code.exits_before(words, true, exits);
-    prepend_are_wanted(code, field.offset, first, exits)
+    prepend_are_required(code, field.offset, first, exits)
 }
 
 /// Writes the code that asks whether a field isn't blank and matches a pattern of one piece.
@@ -93,7 +93,7 @@ fn prepend_ends_at<A: Allocator + Copy>(
         is_filled: ends_filled(piece),
     };
     let exits = prepend_ending(code, field, ends, exits)?;
-    prepend_are_wanted(code, field.offset + from, piece, exits)
+    prepend_are_required(code, field.offset + from, piece, exits)
 }
 
 /// A search for pieces in a field, with the exits of its code and the number of words after it.
@@ -114,7 +114,7 @@ fn prepend_search<A: Allocator + Copy>(
     columns: usize,
 ) -> Result<(), CompileFault>
     requires begins { (pieces_of pattern.now).first ≡ [] }
-    requires fits { from + taken pattern.now + columns ≤ search.field.width + 1 }
+    requires fits { from + least_length pattern.now + columns ≤ search.field.width + 1 }
     requires words { search.words ≡ word_count code.old }
     requires inside { search.exits.skip ≤ word_count code.old }
     ensures { Prepends result (Coded (grid (rows_of search.field (pieces_of pattern.now).is_open from (pieces_of pattern.now).others) columns))
@@ -135,16 +135,16 @@ fn prepend_rows<A: Allocator + Copy>(
     starts: &mut [usize],
 ) -> Result<(), CompileFault>
     requires begins { (pieces_of pattern.now).first ≡ [] }
-    requires fits { from + taken pattern.now + length starts.old ≤ search.field.width + 1 }
+    requires fits { from + least_length pattern.now + length starts.old ≤ search.field.width + 1 }
     requires words { search.words ≤ word_count code.old }
     requires inside { search.exits.skip ≤ search.words }
     ensures { IsLaid result (lay_rows (rows_of search.field (pieces_of pattern.now).is_open from (pieces_of pattern.now).others)
         search.exits.falls search.exits.skip search.words (record { code = code.old; starts = starts.old })) code.new starts.new }
 {
-    let Some((_many, behind)) = pattern.split_first() else {
+    let Some((_many, following)) = pattern.split_first() else {
         return Ok(());
     };
-    let (piece, others) = behind.split_at(first_length(behind));
+    let (piece, others) = following.split_at(first_length(following));
     if piece.is_empty() {
         return prepend_rows(code, search, from, others, starts);
     }
@@ -153,7 +153,7 @@ fn prepend_rows<A: Allocator + Copy>(
     let row = PatternRow {
         field: search.field,
         from,
-        is_last: taken(others) == 0,
+        is_last: least_length(others) == 0,
         is_open: !others.is_empty(),
     };
     prepend_cells(code, row, piece, 0, starts, past)
@@ -210,6 +210,6 @@ fn prepend_cell<A: Allocator + Copy>(
     if row.is_last {
         prepend_ends_at(code, row.field, piece, row.is_open, at, exits)
     } else {
-        prepend_are_wanted(code, row.field.offset + at, piece, exits)
+        prepend_are_required(code, row.field.offset + at, piece, exits)
     }
 }

@@ -3,8 +3,8 @@ ghost use Rattle.std.specs.Prelude.{◌≡◌, ◌≤◌, ◌<◌, ◌+◌, ◌+
 ghost use Rattle.bpf_insn.specs.Code.{word_count};
 ghost use Rattle.cql2_code.specs.Among.{comparisons};
 ghost use Rattle.cql2_code.specs.Layout.{IsPrepended, Prepends};
-ghost use Rattle.cql2_code.specs.Lowering.{are_wanted, bytes_alike, ends_filled, exact_bytes, is_among, is_each_wanted, is_wanted};
-ghost use Rattle.cql2_code.specs.Pieces.{pieces_of, taken};
+ghost use Rattle.cql2_code.specs.Lowering.{are_required, bytes_alike, ends_filled, exact_bytes, is_among, is_each_required, is_required};
+ghost use Rattle.cql2_code.specs.Pieces.{least_length, pieces_of};
 ghost use Rattle.tl_records.specs.declared.layout.TheConstants.{RECORD_LENGTH};
 
 use crate::fault::CompileFault;
@@ -34,8 +34,8 @@ pub(crate) fn first_length(pattern: &[PatternPart]) -> usize
 }
 
 /// Returns the number of bytes that a pattern takes at least.
-pub(crate) fn taken(pattern: &[PatternPart]) -> usize
-    ensures value { result ≡ taken pattern.now }
+pub(crate) fn least_length(pattern: &[PatternPart]) -> usize
+    ensures value { result ≡ least_length pattern.now }
     ensures inside { result ≤ length pattern.now }
 {
     let mut count = 0;
@@ -78,7 +78,7 @@ pub(crate) fn ends_filled(piece: &[PatternPart]) -> bool
 }
 
 /// Writes the code that asks whether the bytes at an offset match a piece.
-pub(crate) fn prepend_are_wanted<A: Allocator + Copy>(
+pub(crate) fn prepend_are_required<A: Allocator + Copy>(
     code: &mut CodeSuffix<A>,
     at: u8,
     piece: &[PatternPart],
@@ -87,16 +87,16 @@ pub(crate) fn prepend_are_wanted<A: Allocator + Copy>(
     requires inside { exits.skip ≤ word_count code.old }
     requires fits { at + length piece.now ≤ RECORD_LENGTH }
     requires short { length piece.now ≤ NAME_LENGTH }
-    ensures { Prepends result (are_wanted at piece.now) exits code.old code.new }
+    ensures { Prepends result (are_required at piece.now) exits code.old code.new }
 {
     // Bytes that are known exactly are compared up to eight at a time.
     if let Some(bytes) = exact_bytes(piece) {
         return prepend_bytes(code, at, bytes.as_slice(), exits);
     }
-    prepend_each_wanted(code, at, piece, exits)
+    prepend_each_required(code, at, piece, exits)
 }
 
-fn prepend_each_wanted<A: Allocator + Copy>(
+fn prepend_each_required<A: Allocator + Copy>(
     code: &mut CodeSuffix<A>,
     at: u8,
     piece: &[PatternPart],
@@ -104,30 +104,30 @@ fn prepend_each_wanted<A: Allocator + Copy>(
 ) -> Result<(), CompileFault>
     requires inside { exits.skip ≤ word_count code.old }
     requires fits { at + length piece.now ≤ RECORD_LENGTH }
-    ensures { Prepends result (is_each_wanted at piece.now) exits code.old code.new }
+    ensures { Prepends result (is_each_required at piece.now) exits code.old code.new }
 {
     let Some((first, rest)) = piece.split_first() else {
         return code.prepend_constant(true, exits);
     };
     if rest.is_empty() {
-        return prepend_wanted(code, at, *first, exits);
+        return prepend_required(code, at, *first, exits);
     }
     let words = code.words();
-    prepend_each_wanted(code, at + 1, rest, exits)?;
+    prepend_each_required(code, at + 1, rest, exits)?;
     let exits = code.exits_before(words, true, exits);
-    prepend_wanted(code, at, *first, exits)
+    prepend_required(code, at, *first, exits)
 }
 
-fn prepend_wanted<A: Allocator + Copy>(
+fn prepend_required<A: Allocator + Copy>(
     code: &mut CodeSuffix<A>,
     at: u8,
-    wanted: PatternPart,
+    required: PatternPart,
     exits: Exits,
 ) -> Result<(), CompileFault>
     requires { exits.skip ≤ word_count code.old }
-    ensures { Prepends result (is_wanted at wanted) exits code.old code.new }
+    ensures { Prepends result (is_required at required) exits code.old code.new }
 {
-    match wanted {
+    match required {
         PatternPart::Exactly(byte) => code.prepend_test(
             byte_test(at, Comparison::Equal, byte),
             exits,
@@ -143,13 +143,13 @@ fn prepend_wanted<A: Allocator + Copy>(
 }
 
 /// Returns the bytes that are the same as this one but for what is ignored, in descending order.
-fn bytes_alike(folding: Folding, wanted: u8) -> ArrayVec<u8, 256>
-    ensures { result.items ≡ bytes_alike folding wanted }
+fn bytes_alike(folding: Folding, required: u8) -> ArrayVec<u8, 256>
+    ensures { result.items ≡ bytes_alike folding required }
 {
     let mut bytes = ArrayVec::new();
     for above in 0..256_u16 {
         let byte = (255 - above) as u8;
-        if is_alike(folding, byte, wanted) {
+        if is_alike(folding, byte, required) {
             bytes.push(byte);
         }
     }

@@ -54,7 +54,7 @@ pub(crate) struct Exits {
 
 impl Exits {
     /// Returns these exits if the question is asked as it is, or those with `falls` negated if its opposite is asked.
-    pub fn asked(self, asked: bool) -> Exits
+    pub fn if_asked(self, asked: bool) -> Exits
         ensures falls { result.falls ≡ (if asked then self.falls else not self.falls) }
         ensures skip { result.skip ≡ self.skip }
     {

@@ -35,7 +35,7 @@ pub(crate) fn prepend_intersects<A: Allocator + Copy>(
     ensures { Prepends result (asks_meets Whole shape.now asked) exits code.old code.new }
 {
     let words = code.words();
-    prepend_meets(code, shape, exits.asked(asked))?;
+    prepend_meets(code, shape, exits.if_asked(asked))?;
     let exits = code.exits_before(words, true, exits);
     prepend_known_line(code, Extent::Whole, exits)
 }
@@ -51,7 +51,7 @@ pub(crate) fn prepend_starts_in<A: Allocator + Copy>(
     ensures { Prepends result (asks_meets Start (shape_variants.Polygons several.now) asked) exits code.old code.new }
 {
     let words = code.words();
-    prepend_start_meets(code, several, exits.asked(asked))?;
+    prepend_start_meets(code, several, exits.if_asked(asked))?;
     let exits = code.exits_before(words, true, exits);
     prepend_known_line(code, Extent::Start, exits)
 }

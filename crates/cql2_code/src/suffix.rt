@@ -24,7 +24,8 @@ ghost use Rattle.cql2_code.specs.declared.question.Subject.TheVariants.{InRange,
 use crate::fault::CompileFault;
 use crate::instructions::{
     call, copy, from_argument_1, from_frame, into_argument_1, into_argument_2, into_argument_3,
-    jump, jump_if, load, move_number, move_to_name, set_number, store_word, wide_load, writes_kept,
+    jump, jump_if, load, move_number, move_to_name, set_number, store_word, wide_load,
+    writes_saved,
 };
 use crate::question::{Exits, Subject, Test, coordinate_id, field_id, opposite};
 use bpf_helpers::Helper;
@@ -44,7 +45,7 @@ pub(crate) struct CodeSuffix<A: Allocator> {
 impl<A: Allocator> Model for CodeSuffix<A> {
     ghost use Rattle.std.specs.Prelude.{◌≡◌, ◌≤◌, List, reverse};
     ghost use Rattle.std.specs.List.{list_any};
-    ghost use Rattle.cql2_code.specs.Layout.{writes_kept};
+    ghost use Rattle.cql2_code.specs.Layout.{writes_saved};
     ghost use Rattle.bpf_insn.specs.Code.{word_count};
     ghost use Rattle.bpf_insn.specs.declared.code.TheConstants.{MAX_WORDS};
     ghost use Rattle.bpf_insn.specs.declared.instruction.Insn.{Insn};
@@ -54,7 +55,7 @@ impl<A: Allocator> Model for CodeSuffix<A> {
     ghost view = { λ suffix. reverse suffix.reversed.items };
 
     ghost invariant = { λ suffix. (suffix.words ≡ word_count (reverse suffix.reversed.items)) × (suffix.words ≤ MAX_WORDS)
-        × (suffix.keeps_numbers ≡ list_any writes_kept (reverse suffix.reversed.items)) };
+        × (suffix.keeps_numbers ≡ list_any writes_saved (reverse suffix.reversed.items)) };
 }
 
 impl<A: Allocator + Copy> CodeSuffix<A> {
@@ -78,8 +79,8 @@ impl<A: Allocator + Copy> CodeSuffix<A> {
     }
 
     /// Returns whether an instruction writes a register that keeps numbers.
-    pub fn writes_kept(&self) -> bool
-        ensures { result ≡ list_any layout.writes_kept self.now }
+    pub fn writes_saved(&self) -> bool
+        ensures { result ≡ list_any layout.writes_saved self.now }
     {
         self.keeps_numbers
     }
@@ -95,7 +96,7 @@ impl<A: Allocator + Copy> CodeSuffix<A> {
         self.reversed.reserve(1)?;
         self.reversed.push_reserved(insn);
         self.words = words;
-        self.keeps_numbers |= writes_kept(insn);
+        self.keeps_numbers |= writes_saved(insn);
         Ok(())
     }
 
@@ -254,7 +255,7 @@ impl<A: Allocator + Copy> CodeSuffix<A> {
             Subject::Names => self.prepend(call(Helper::NameCount)),
             Subject::Ranges => self.prepend(call(Helper::RangeCount)),
             Subject::InRange(range, house) => self.prepend_in_range(range, house),
-            Subject::NameIs(name, wanted) => self.prepend_name_is(name, &wanted),
+            Subject::NameIs(name, required) => self.prepend_name_is(name, &required),
             Subject::Load(chunk, at) => self.prepend(load(chunk, at)),
         }
     }
@@ -277,12 +278,12 @@ impl<A: Allocator + Copy> CodeSuffix<A> {
     }
 
     /// Writes the call that compares a name with bytes, preceded by the stores of those bytes in the frame.
-    fn prepend_name_is(&mut self, name: u16, wanted: &[u8; 32]) -> Result<(), CompileFault>
-        ensures { IsPrepended result (subject_code (NameIs name wanted.now) ++ self.old) self.new }
+    fn prepend_name_is(&mut self, name: u16, required: &[u8; 32]) -> Result<(), CompileFault>
+        ensures { IsPrepended result (subject_code (NameIs name required.now) ++ self.old) self.new }
     {
         self.prepend(call(Helper::NameIs))?;
         // Each test stores the name again, so that its code depends on that test alone.
-        self.prepend_name(wanted)?;
+        self.prepend_name(required)?;
         self.prepend(move_number(into_argument_3(), 30))?;
         self.prepend(move_to_name())?;
         self.prepend(copy(into_argument_2(), from_frame()))?;
@@ -290,16 +291,16 @@ impl<A: Allocator + Copy> CodeSuffix<A> {
     }
 
     /// Writes the stores of a name.
-    fn prepend_name(&mut self, wanted: &[u8; 32]) -> Result<(), CompileFault>
-        ensures { IsPrepended result (store_name wanted.now ++ self.old) self.new }
+    fn prepend_name(&mut self, required: &[u8; 32]) -> Result<(), CompileFault>
+        ensures { IsPrepended result (store_name required.now ++ self.old) self.new }
     {
-        self.prepend(store_word(7, wanted))?;
-        self.prepend(store_word(6, wanted))?;
-        self.prepend(store_word(5, wanted))?;
-        self.prepend(store_word(4, wanted))?;
-        self.prepend(store_word(3, wanted))?;
-        self.prepend(store_word(2, wanted))?;
-        self.prepend(store_word(1, wanted))?;
-        self.prepend(store_word(0, wanted))
+        self.prepend(store_word(7, required))?;
+        self.prepend(store_word(6, required))?;
+        self.prepend(store_word(5, required))?;
+        self.prepend(store_word(4, required))?;
+        self.prepend(store_word(3, required))?;
+        self.prepend(store_word(2, required))?;
+        self.prepend(store_word(1, required))?;
+        self.prepend(store_word(0, required))
     }
 }

@@ -65,7 +65,7 @@ fn prepend_asks_about<A: Allocator + Copy, Q: TextQuestion>(
         return Ok(());
     }
     let exits = code.exits_before(words, true, exits);
-    prepend_blank_field(code, field, exits.asked(false))
+    prepend_blank_field(code, field, exits.if_asked(false))
 }
 
 /// Writes the code that asks a question about a field without the blanks before its text.
@@ -173,7 +173,7 @@ impl<'a> TextQuestion for Matched<'a> {
         field: Field,
         exits: Exits,
     ) -> Result<(), CompileFault> {
-        prepend_pattern(code, field, self.pattern, exits.asked(self.asked))
+        prepend_pattern(code, field, self.pattern, exits.if_asked(self.asked))
     }
 }
 

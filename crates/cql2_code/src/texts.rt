@@ -43,11 +43,11 @@ pub(crate) fn prepend_compared<A: Allocator + Copy>(
     let (at, left) = (field.offset, field.width);
     match comparison {
         Comparison::Equal => prepend_equal(code, field, text, exits),
-        Comparison::NotEqual => prepend_equal(code, field, text, exits.asked(false)),
+        Comparison::NotEqual => prepend_equal(code, field, text, exits.if_asked(false)),
         Comparison::Less => prepend_less(code, at, left, text, exits),
-        Comparison::GreaterOrEqual => prepend_less(code, at, left, text, exits.asked(false)),
+        Comparison::GreaterOrEqual => prepend_less(code, at, left, text, exits.if_asked(false)),
         Comparison::Greater => prepend_greater(code, at, left, text, exits),
-        Comparison::LessOrEqual => prepend_greater(code, at, left, text, exits.asked(false)),
+        Comparison::LessOrEqual => prepend_greater(code, at, left, text, exits.if_asked(false)),
     }
 }
 
@@ -95,7 +95,7 @@ pub(crate) struct Ending {
     pub is_filled: bool,
 }
 
-/// Writes the code that checks the bytes after the wanted ones, and returns the exits for the code that checks the wanted ones.
+/// Writes the code that checks the bytes after the required ones, and returns the exits for the code that checks the required ones.
 pub(crate) fn prepend_ending<A: Allocator + Copy>(
     code: &mut CodeSuffix<A>,
     field: Field,
@@ -113,7 +113,7 @@ pub(crate) fn prepend_ending<A: Allocator + Copy>(
         (true, true) => Ok(exits),
         (true, false) => {
             let from = ends.count.saturating_sub(1);
-            prepend_blank(code, field, from, exits.asked(false))?;
+            prepend_blank(code, field, from, exits.if_asked(false))?;
             Ok(code.exits_before(words, true, exits))
         }
         (false, true) => {
@@ -125,7 +125,7 @@ pub(crate) fn prepend_ending<A: Allocator + Copy>(
         }
         (false, false) => {
             let from = ends.count.saturating_sub(1);
-            prepend_blank(code, field, from, exits.asked(false))?;
+            prepend_blank(code, field, from, exits.if_asked(false))?;
             let inner = code.exits_before(words, true, exits);
             prepend_blank(code, field, ends.count, inner)?;
             Ok(code.exits_before(words, true, exits))
@@ -302,7 +302,12 @@ fn prepend_greater<A: Allocator + Copy>(
         return code.prepend_constant(false, exits);
     }
     let Some((byte, rest)) = text.split_first() else {
-        return prepend_bytes(code, at, &BLANKS[..usize::from(left)], exits.asked(false));
+        return prepend_bytes(
+            code,
+            at,
+            &BLANKS[..usize::from(left)],
+            exits.if_asked(false),
+        );
     };
     let words = code.words();
     prepend_greater(code, at + 1, left - 1, rest, exits)?;

@@ -9,7 +9,7 @@ ghost use Rattle.cql2_code.specs.declared.line.Extent.TheVariants.{Whole};
 
 use crate::bounds::{outside, prepend_end_in};
 use crate::fault::CompileFault;
-use crate::instructions::from_kept;
+use crate::instructions::from_saved;
 use crate::line::{Extent, prepend_coordinates, prepend_known_line};
 use crate::question::Exits;
 use crate::shape_instructions::from_end_latitude;
@@ -30,7 +30,7 @@ pub(crate) fn prepend_within<A: Allocator + Copy>(
     ensures { Prepends result (asks_within extent bounds asked) exits code.old code.new }
 {
     let words = code.words();
-    prepend_lies_within(code, bounds, extent, exits.asked(asked))?;
+    prepend_lies_within(code, bounds, extent, exits.if_asked(asked))?;
     let exits = code.exits_before(words, true, exits);
     prepend_known_line(code, extent, exits)
 }
@@ -60,7 +60,7 @@ fn prepend_ends<A: Allocator + Copy>(
 {
     match extent {
         Extent::Whole => prepend_both_ends(code, bounds),
-        Extent::Start => prepend_end_in(code, bounds, from_kept(0), from_kept(1)),
+        Extent::Start => prepend_end_in(code, bounds, from_saved(0), from_saved(1)),
     }
 }
 
@@ -71,7 +71,7 @@ fn prepend_both_ends<A: Allocator + Copy>(
 ) -> Result<(), CompileFault>
     ensures { IsPrepended result (within_code Whole bounds ++ code.old) code.new }
 {
-    prepend_end_in(code, bounds, from_kept(2), from_end_latitude())?;
+    prepend_end_in(code, bounds, from_saved(2), from_end_latitude())?;
     // Past the tests of the other end (4 words) and the mark.
-    code.prepend_all(&outside(bounds, from_kept(0), from_kept(1), 5))
+    code.prepend_all(&outside(bounds, from_saved(0), from_saved(1), 5))
 }

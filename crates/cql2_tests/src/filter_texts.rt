@@ -1,9 +1,9 @@
 //! Filters read from texts, with results worked out by hand.
 use crate::function_texts::{push_bytes, push_function};
 use cql2::{
-    Column, Comparison, Expression, Filter, Folding, NumericColumn, Operator, Pattern, PatternPart,
+    Column, Comparison, Expression, Filter, Folding, Operator, Pattern, PatternPart, column_name,
 };
-use cql2_text::{Construct, FilterFault, FilterFaultKind, column_named, read};
+use cql2_text::{Construct, FilterFault, FilterFaultKind, read};
 use fixtures::{Table, TableFault, bytes, cells};
 use refusals::Fault;
 use std::alloc::{AllocError, Global};
@@ -217,56 +217,6 @@ ZIPL=5AND ZIPR=6; (and (= ZIPL 5) (= ZIPR 6))
 {text  *524287}TRUE{text  *524287}; 1 1048577 TooLong
 "#,
 );
-
-// The columns of these filters.
-const COLUMNS: [&str; 28] = [
-    "TLID",
-    "FRADDL",
-    "TOADDL",
-    "ZIPL",
-    "ZIPR",
-    "FRLONG",
-    "FRLAT",
-    "TOLONG",
-    "TOLAT",
-    "RT",
-    "VERSION",
-    "SIDE1",
-    "SOURCE",
-    "FEDIRP",
-    "FENAME",
-    "FETYPE",
-    "FEDIRS",
-    "CFCC",
-    "FRIADDL",
-    "TOIADDL",
-    "FRIADDR",
-    "TOIADDR",
-    "COUSUBL",
-    "COUSUBR",
-    "FRADDL_TEXT",
-    "TOADDL_TEXT",
-    "FRADDR_TEXT",
-    "TOADDR_TEXT",
-];
-
-fn column_name(column: Column) -> &'static str {
-    for name in COLUMNS {
-        if column_named(name.as_bytes()).map(place_of) == Some(place_of(column)) {
-            return name;
-        }
-    }
-    "another column"
-}
-
-/// Returns the kind of a column, and its place among those of its kind.
-fn place_of(column: Column) -> (u8, u8) {
-    match column {
-        Column::Numeric(NumericColumn::Number(number)) => (0, number as u8),
-        Column::Numeric(NumericColumn::Coordinate(coordinate)) => (1, coordinate as u8),
-        Column::Text(text) => (2, text as u8),
-    }
-}
 
 /// Appends what a comparison ignores.
 fn push_folding(text: &mut String, folding: Folding) -> Result<(), AllocError> {

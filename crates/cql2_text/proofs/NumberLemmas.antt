@@ -4,7 +4,7 @@ use Rattle.std.specs.Prelude.{unsigned_abs}
 use Rattle.std.specs.declared.boxed.Box.{Box}
 use Rattle.std.specs.Prelude.{IsTrue, max, nat_le}
 use Rattle.std.proofs.lemmas.Bool.{and_parts, leb-true}
-use Rattle.cql2.specs.Expression.{MAX_DEPTH, bound, column_bound, combined_bound, is_bounded, is_exact, kept_for}
+use Rattle.cql2.specs.Expression.{MAX_DEPTH, bound, column_bound, combined_bound, is_bounded, is_exact, saved_for}
 use Rattle.cql2.specs.Expression.{depth as depth_of}
 use Rattle.cql2.specs.declared.expression.Expression.{Expression}
 use Rattle.cql2.specs.declared.expression.Expression.TheVariants as expression
@@ -52,7 +52,7 @@ content_depth (Negated inner) = content_depth inner
 content_depth (Combined operator first second) = max (content_depth first) (content_kept second (content_depth second))
 
 module _ {A : Type 0} where
-  kept-by : (second : Expression A) (depth : ℕ) → kept_for second depth ≡ content_kept (expression_content second) depth
+  kept-by : (second : Expression A) (depth : ℕ) → saved_for second depth ≡ content_kept (expression_content second) depth
   kept-by (expression.Literal value) depth = refl
   kept-by (expression.Column column) depth = refl
   kept-by (expression.Negated' p inner) depth = refl
@@ -65,7 +65,7 @@ module _ {A : Type 0} where
   depth-by (expression.Combined' operator p first q second) =
       let one = depth-by first in
       let kept = kept-by second (depth_of second) ∙ ap (content_kept (expression_content second)) (depth-by second) in
-      ap (λ (d : ℕ). max d (kept_for second (depth_of second))) one ∙ ap (λ (d : ℕ). max (content_depth (expression_content first)) d) kept
+      ap (λ (d : ℕ). max d (saved_for second (depth_of second))) one ∙ ap (λ (d : ℕ). max (content_depth (expression_content first)) d) kept
 
   pub same-depth : (made other : Expression A) → expression_content made ≡ expression_content other → depth_of made ≡ depth_of other
   same-depth made other same = depth-by made ∙ ap content_depth same ∙ sym (depth-by other)

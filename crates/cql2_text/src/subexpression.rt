@@ -1,7 +1,7 @@
 //! Subexpressions of numeric expressions, with what is known of their values.
 ghost use Rattle.std.specs.Prelude.{◌≡◌, ◌+◌, ◌-◌, ◌<◌, ◌≤◌, ◌^◌, IsTrue, MatchOption, MatchResult, unsigned_abs};
 ghost use Rattle.cql2.specs.Column.{number_places};
-ghost use Rattle.cql2.specs.Expression.{bound as bound_of, column_bound, combined_bound, depth as depth_of, is_bounded, kept_for, width_of};
+ghost use Rattle.cql2.specs.Expression.{bound as bound_of, column_bound, combined_bound, depth as depth_of, is_bounded, saved_for, width_of};
 ghost use Rattle.cql2.specs.declared.expression.Expression.TheVariants as expression;
 ghost use Rattle.cql2_text.specs.Expression.{Fits, IsCombined, IsOpposite, operators as operators_of};
 ghost use Rattle.cql2_text.specs.declared.syntax_fault.SyntaxFault.TheVariants as syntax_fault;
@@ -104,7 +104,7 @@ pub(crate) fn combination<'a, A: Allocator + Copy>(
     let Some(bound) = combined_bound(operator, first.bound, second.bound) else {
         return Err(SyntaxFault::at(words, FilterFaultKind::NumberRange));
     };
-    let depth = first.depth.max(kept_for(&second.expression, second.depth));
+    let depth = first.depth.max(saved_for(&second.expression, second.depth));
     let Ok(first) = Box::new(alloc, first.expression) else {
         return Err(SyntaxFault::Memory);
     };
@@ -120,9 +120,9 @@ pub(crate) fn combination<'a, A: Allocator + Copy>(
 }
 
 /// Returns how many values must be kept while an operand of this depth is computed after another one.
-fn kept_for<A: Allocator>(second: &Expression<A>, depth: u32) -> u32
+fn saved_for<A: Allocator>(second: &Expression<A>, depth: u32) -> u32
     requires { depth ≤ 64 }
-    ensures value { result ≡ kept_for second.now depth }
+    ensures value { result ≡ saved_for second.now depth }
     ensures few { result ≤ depth + 1 }
 {
     match second {

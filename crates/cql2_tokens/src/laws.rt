@@ -1,7 +1,8 @@
 //! Laws about the definitions themselves. The functions do nothing: each function's contract is the law.
 ghost use Rattle.std.specs.Prelude.{◌≡◌, Some, None};
+ghost use Rattle.cql2.specs.Column.{column_name};
 ghost use Rattle.cql2.specs.declared.column.Column.{Column};
-ghost use Rattle.cql2_tokens.specs.Name.{column_name, column_named, keyword_named, keyword_text};
+ghost use Rattle.cql2_tokens.specs.Name.{column_named, keyword_named, keyword_text};
 ghost use Rattle.cql2_tokens.specs.declared.token.Keyword.{Keyword};
 
 /// Proves that each column is found by its name, which no other column has, even in another case, and which is not a keyword.

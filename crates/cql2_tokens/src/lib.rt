@@ -9,7 +9,8 @@ mod nearest;
 mod token;
 
 pub use characters::character;
+pub use cql2::column_name;
 pub use lexer::Tokens;
-pub use name::{column_name, column_named};
+pub use name::column_named;
 pub use nearest::{leading_name, near_column, nearest_column};
 pub use token::{FunctionName, Keyword, Numeral, ShapeTag, Sign, Token};

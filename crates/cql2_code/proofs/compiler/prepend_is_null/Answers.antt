@@ -10,5 +10,5 @@ returns-in-Numeric g c =
     let same = ap (λ (column : Column). if_asked (is_null column) c.args.asked) (sym c.in-Numeric.is) in
     prepends_as c.prepend_test.result _
     (λ all written. written_as same
-    (null_written c.args.asked c.asked.ensures.falls c.asked.ensures.skip (written_as c.has_value.ensures written)))
+    (null_written c.args.asked c.if_asked.ensures.falls c.if_asked.ensures.skip (written_as c.has_value.ensures written)))
     c.prepend_test.ensures

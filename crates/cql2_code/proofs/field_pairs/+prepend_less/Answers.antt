@@ -15,7 +15,7 @@ returns g t c =
     let blank = joined words less c.exits_before-blank.ensures.before c.in_ok-prepend_blanks.ensures in
     prepends_as c.prepend_blanks-3.result _
     (λ all front. written_as (sym both)
-    (joined words blank c.exits_before-filled.ensures.before (opposite_written c.asked-2.ensures.falls c.asked-2.ensures.skip front)))
+    (joined words blank c.exits_before-filled.ensures.before (opposite_written c.if_asked-2.ensures.falls c.if_asked-2.ensures.skip front)))
     c.prepend_blanks-3.ensures
 
 pub returns-in_err-prepend_less : goal.returns-in_err-prepend_less

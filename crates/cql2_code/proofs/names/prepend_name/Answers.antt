@@ -10,7 +10,7 @@ use Rattle.cql2_code.proofs.names.prepend_name.Goals as goal
 
 pub returns-then-not-checks_for_end : goal.returns-then-not-checks_for_end
 returns-then-not-checks_for_end g c = λ more rest counted after.
-    written_as (sym (is_named_from-more c.args.wanted.now c.args.name more (sym c.checks_for_end.ensures ∙ c.if-not-checks_for_end.true)))
+    written_as (sym (is_named_from-more c.args.required.now c.args.name more (sym c.checks_for_end.ensures ∙ c.if-not-checks_for_end.true)))
     (joined (sym counted) after c.exits_before-before.ensures.before c.in_ok-prepend_test.ensures)
 
 pub returns : goal.returns
@@ -20,7 +20,7 @@ returns g c =
     let number = ap (λ (z : ℤ). test Names GreaterOrEqual z) (unchanged_64 c.from.result c.args.name c.from.ensures small) in
     λ more rest counted after. prepends_as c.prepend_test-2.result _
     (λ all there.
-    written_as (sym (is_named_from-milestone c.args.wanted.now c.args.name more is))
+    written_as (sym (is_named_from-milestone c.args.required.now c.args.name more is))
     (joined (sym counted) (joined (sym counted) after c.exits_before-before.ensures.before c.in_ok-prepend_test.ensures)
     c.exits_before-before-2.ensures.before (written_as number there)))
     c.prepend_test-2.ensures
@@ -28,5 +28,5 @@ returns g c =
 pub returns-in_err-prepend_test : goal.returns-in_err-prepend_test
 returns-in_err-prepend_test g c = λ more rest counted after.
     prepends_refused c.from_residual.result _ c.from_residual.ensures.1
-    (is_named_from-here_refused c.args.wanted.now c.args.name more
+    (is_named_from-here_refused c.args.required.now c.args.name more
     (refuses_as (λ all front. joined (sym counted) after c.exits_before-before.ensures.before front) c.in_err-prepend_test.ensures))

@@ -10,7 +10,7 @@ loop-name-init g c =
     let none : c.args.most - c.args.most ≡ 0 = omega arith in (
       c.words-end.ensures.value,
       written_as
-          (sym (ap (is_named_from c.args.wanted.now (c.args.most + 1)) none ∙ is_named_from-none c.args.wanted.now (c.args.most + 1)))
+          (sym (ap (is_named_from c.args.required.now (c.args.most + 1)) none ∙ is_named_from-none c.args.required.now (c.args.most + 1)))
           c.in_ok-prepend_constant.ensures,
     )
 
@@ -20,8 +20,8 @@ loop-name-preserved g c =
     let more : suc (c.args.most - c.loop-name.name) ≡ c.args.most - (c.loop-name.name - 1) = omega arith in (
       c.words-end.ensures.value,
       written_as
-          (ap (λ (at : ℕ). is_named_from c.args.wanted.now at (suc (c.args.most - c.loop-name.name))) here
-          ∙ ap (is_named_from c.args.wanted.now (c.loop-name.name - 1 + 1)) more)
+          (ap (λ (at : ℕ). is_named_from c.args.required.now at (suc (c.args.most - c.loop-name.name))) here
+          ∙ ap (is_named_from c.args.required.now (c.loop-name.name - 1 + 1)) more)
           (c.in_ok-prepend_name.ensures (c.args.most - c.loop-name.name) c.args.code.now (sym c.words-end.ensures.value)
           c.loop-name.invariant.1),
     )
@@ -31,16 +31,16 @@ returns-in_ok-prepend_name g c =
     let here : c.loop-name.name ≡ 0 = omega arith in
     let all : suc (c.args.most - c.loop-name.name) ≡ suc c.args.most = omega arith in
     written_as
-    (ap (λ (at : ℕ). is_named_from c.args.wanted.now at (suc (c.args.most - c.loop-name.name))) here
-    ∙ ap (is_named_from c.args.wanted.now 0) all)
+    (ap (λ (at : ℕ). is_named_from c.args.required.now at (suc (c.args.most - c.loop-name.name))) here
+    ∙ ap (is_named_from c.args.required.now 0) all)
     (c.in_ok-prepend_name.ensures (c.args.most - c.loop-name.name) c.args.code.now (sym c.words-end.ensures.value) c.loop-name.invariant.1)
 
 pub returns-in_err-prepend_constant : goal.returns-in_err-prepend_constant
 returns-in_err-prepend_constant g c =
-    let none = sym (is_named_from-none c.args.wanted.now (suc c.args.most)) in
+    let none = sym (is_named_from-none c.args.required.now (suc c.args.most)) in
     let all : suc c.args.most ≡ suc c.args.most + 0 = omega arith in
     prepends_refused c.from_residual.result _ c.from_residual.ensures.1
-    (is_named_from-refused c.args.wanted.now (suc c.args.most) 0 (suc c.args.most) all
+    (is_named_from-refused c.args.required.now (suc c.args.most) 0 (suc c.args.most) all
     (refuses_as (λ all written. written_as none written) c.in_err-prepend_constant.ensures))
 
 pub returns-in_err-prepend_name : goal.returns-in_err-prepend_name
@@ -48,5 +48,5 @@ returns-in_err-prepend_name g c =
     let more = c.args.most - c.loop-name.name in
     let all : suc c.args.most ≡ c.loop-name.name + suc more = omega arith in
     prepends_refused c.from_residual-in_err-prepend_name.result _ c.from_residual-in_err-prepend_name.ensures.1
-    (is_named_from-refused c.args.wanted.now c.loop-name.name (suc more) (suc c.args.most) all
+    (is_named_from-refused c.args.required.now c.loop-name.name (suc more) (suc c.args.most) all
     (c.in_err-prepend_name.ensures more c.args.code.now (sym c.words-end.ensures.value) c.loop-name.invariant.1))

@@ -6,4 +6,4 @@ use Rattle.cql2_code.proofs.names.prepend_named.Given as goal
 
 abbrev pub invariant-loop-name : goal.invariant-loop-name
 invariant-loop-name g l =
-    (l.end ≡ word_count l.fn.code) × Writes (is_named_from l.wanted (l.name + 1) (l.most - l.name)) l.exits l.fn.code l.code
+    (l.end ≡ word_count l.fn.code) × Writes (is_named_from l.required (l.name + 1) (l.most - l.name)) l.exits l.fn.code l.code

@@ -7,7 +7,7 @@ use Rattle.cql2_code.proofs.pieces.bytes_alike.Goals.{then-is_alike, else-is_ali
 
 pub loop-above-preserved : goal.loop-above-preserved
 loop-above-preserved c =
-    let good = λ (byte : ℕ). is_alike c.args.folding byte c.args.wanted in
+    let good = λ (byte : ℕ). is_alike c.args.folding byte c.args.required in
     let above = c.loop-above.above in
     let bytes = c.loop-above.bytes.items in
     let before = c.loop-above.invariant in
@@ -24,4 +24,4 @@ loop-above-preserved c =
 pub returns : goal.returns
 returns c =
     let end : 256 ≤ c.loop-above.above = omega arith in
-    where_all (λ byte. is_alike c.args.folding byte c.args.wanted) c.loop-above.bytes.items _ c.loop-above.above end c.loop-above.invariant.1
+    where_all (λ byte. is_alike c.args.folding byte c.args.required) c.loop-above.bytes.items _ c.loop-above.above end c.loop-above.invariant.1

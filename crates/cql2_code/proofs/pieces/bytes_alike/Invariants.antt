@@ -5,5 +5,5 @@ use Rattle.cql2_code.proofs.pieces.bytes_alike.Given as goal
 
 abbrev pub invariant-loop-above : goal.invariant-loop-above
 invariant-loop-above l = (length l.bytes.items ≤ l.above)
-    × (l.bytes.items ++ bytes_where (λ byte. is_alike l.folding byte l.wanted) (256 - l.above)
-    ≡ bytes_where (λ byte. is_alike l.folding byte l.wanted) 256)
+    × (l.bytes.items ++ bytes_where (λ byte. is_alike l.folding byte l.required) (256 - l.above)
+    ≡ bytes_where (λ byte. is_alike l.folding byte l.required) 256)

@@ -33,5 +33,5 @@ returns g c =
     prepends_as c.prepend_blank_field.result _
     (λ all front. written_as about
     (joined c.words-words.ensures.value c.in_ok-prepend.ensures c.exits_before-exits.ensures.before
-    (opposite_written c.asked.ensures.falls c.asked.ensures.skip front)))
+    (opposite_written c.if_asked.ensures.falls c.if_asked.ensures.skip front)))
     c.prepend_blank_field.ensures

@@ -12,7 +12,7 @@ returns-in_default g t c =
     let few : c.from.result ≤ 30 = omega arith in
     let blanks = blank_bytes c.args.at c.from.result few ∙ ap (is_blank c.args.at) c.from.ensures in
     prepends_as c.prepend_bytes.result _
-    (λ all written. written_as (sym blank) (opposite_written c.asked.ensures.falls c.asked.ensures.skip (written_as blanks written)))
+    (λ all written. written_as (sym blank) (opposite_written c.if_asked.ensures.falls c.if_asked.ensures.skip (written_as blanks written)))
     c.prepend_bytes.ensures
 
 pub returns : goal.returns

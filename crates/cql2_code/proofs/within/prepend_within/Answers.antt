@@ -6,5 +6,5 @@ pub returns : goal.returns
 returns g c =
     prepends_as c.prepend_known_line.result _
     (λ all front. joined c.words-words.ensures.value
-    (asked_written c.args.asked c.asked.ensures.falls c.asked.ensures.skip c.in_ok-prepend_lies_within.ensures) c.exits_before-exits.ensures.before front)
+    (asked_written c.args.asked c.if_asked.ensures.falls c.if_asked.ensures.skip c.in_ok-prepend_lies_within.ensures) c.exits_before-exits.ensures.before front)
     c.prepend_known_line.ensures

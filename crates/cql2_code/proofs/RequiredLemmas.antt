@@ -11,9 +11,9 @@ use Rattle.cql2.specs.Folding.{is_alike}
 use Rattle.cql2.specs.Pattern.{are_bytes, is_byte, is_like as is_text_like}
 use Rattle.cql2.specs.declared.pattern.PatternPart.{PatternPart}
 use Rattle.cql2.specs.declared.pattern.PatternPart.TheVariants.{Exactly, Alike, One, Many}
-use Rattle.cql2_code.specs.Lowering.{are_wanted, both, bytes_alike, bytes_where, ends_at, ends_filled, ends_so, exact_bytes, is_among, is_blank}
-use Rattle.cql2_code.specs.Lowering.{is_each_wanted, is_filled, is_piece, is_wanted}
-use Rattle.cql2_code.specs.Pieces.{taken}
+use Rattle.cql2_code.specs.Lowering.{are_required, both, bytes_alike, bytes_where, ends_at, ends_filled, ends_so, exact_bytes, is_among, is_blank}
+use Rattle.cql2_code.specs.Lowering.{is_each_required, is_filled, is_piece, is_required}
+use Rattle.cql2_code.specs.Pieces.{least_length}
 use Rattle.cql2_code.specs.Question.{Decided, answer}
 use Rattle.cql2_code.specs.declared.field.Field.{Field}
 use Rattle.cql2_code.proofs.ByteLemmas.{AreSmall, begins, byte_equals, byte_read, bytes_found, first_byte}
@@ -25,24 +25,24 @@ use Rattle.cql2_code.proofs.TrimLemmas.{trimmed, trimmed_blank}
 
 -- Fields
 
--- the field is blank after the wanted bytes
+-- the field is blank after the required bytes
 abbrev pub closes : List PatternPart → List ℕ → Bool
 closes piece field = are_blank (drop (length piece) field)
 
--- the field isn't blank from the last wanted byte on
+-- the field isn't blank from the last required byte on
 abbrev pub fills : List PatternPart → List ℕ → Bool
 fills [] field = not (are_blank field)
-fills (wanted ∷ []) field = not (are_blank field)
-fills (wanted ∷ next ∷ piece) [] = false
-fills (wanted ∷ next ∷ piece) (byte ∷ field) = fills (next ∷ piece) field
+fills (required ∷ []) field = not (are_blank field)
+fills (required ∷ next ∷ piece) [] = false
+fills (required ∷ next ∷ piece) (byte ∷ field) = fills (next ∷ piece) field
 
 fills_is : (piece : List PatternPart) (field : List ℕ) → length piece ≤ length field
     → not (are_blank (drop (length piece - 1) field)) ≡ fills piece field
 fills_is [] field long = refl
-fills_is (wanted ∷ []) field long = refl
-fills_is (wanted ∷ next ∷ piece) [] long = absurd (omega arith)
-fills_is (wanted ∷ next ∷ piece) (byte ∷ field) long =
-    let one_less : length (wanted ∷ next ∷ piece) - 1 ≡ suc (length (next ∷ piece) - 1) = omega arith in
+fills_is (required ∷ []) field long = refl
+fills_is (required ∷ next ∷ piece) [] long = absurd (omega arith)
+fills_is (required ∷ next ∷ piece) (byte ∷ field) long =
+    let one_less : length (required ∷ next ∷ piece) - 1 ≡ suc (length (next ∷ piece) - 1) = omega arith in
     ap (λ (count : ℕ). not (are_blank (drop count (byte ∷ field)))) one_less ∙ fills_is (next ∷ piece) field (omega arith)
 
 -- a piece, followed by more bytes if the pattern is open
@@ -63,44 +63,44 @@ like_nothing false (byte ∷ field) = by_blank (are_blank (byte ∷ field))
     by_blank true = refl
     by_blank false = refl
 
-has_more : (wanted : PatternPart) (pattern : List PatternPart) (byte : ℕ) (field : List ℕ) → is_single wanted ≡ true
-    → has_text (is_text_like (wanted ∷ pattern)) (byte ∷ field)
-    ≡ (not (are_blank (byte ∷ field)) && (takes wanted byte && like pattern field))
-has_more wanted pattern byte field single =
-    ap (λ (like : Bool). not (are_blank (byte ∷ field)) && like) (like_part_field wanted pattern byte field single)
-    ∙ and_twice (not (are_blank (byte ∷ field))) (takes wanted byte && like pattern field)
+has_more : (required : PatternPart) (pattern : List PatternPart) (byte : ℕ) (field : List ℕ) → is_single required ≡ true
+    → has_text (is_text_like (required ∷ pattern)) (byte ∷ field)
+    ≡ (not (are_blank (byte ∷ field)) && (takes required byte && like pattern field))
+has_more required pattern byte field single =
+    ap (λ (like : Bool). not (are_blank (byte ∷ field)) && like) (like_part_field required pattern byte field single)
+    ∙ and_twice (not (are_blank (byte ∷ field))) (takes required byte && like pattern field)
 
-last_wanted : (wanted closed filled : Bool) → (wanted && true && (closed && filled)) ≡ (filled && (wanted && closed))
-last_wanted true true true = refl
-last_wanted true true false = refl
-last_wanted true false true = refl
-last_wanted true false false = refl
-last_wanted false true true = refl
-last_wanted false true false = refl
-last_wanted false false true = refl
-last_wanted false false false = refl
+last_required : (required closed filled : Bool) → (required && true && (closed && filled)) ≡ (filled && (required && closed))
+last_required true true true = refl
+last_required true true false = refl
+last_required true false true = refl
+last_required true false false = refl
+last_required false true true = refl
+last_required false true false = refl
+last_required false false true = refl
+last_required false false false = refl
 
 -- a blank rest has no text that matches a pattern of one or more bytes
-rest_like : (blank_byte wanted_byte : Bool) (wanted : PatternPart) (pattern : List PatternPart) (field : List ℕ) → is_single wanted ≡ true
-    → (wanted_byte && has_text (is_text_like (wanted ∷ pattern)) field)
-    ≡ (not (blank_byte && are_blank field) && (wanted_byte && like (wanted ∷ pattern) field))
-rest_like blank_byte wanted_byte wanted pattern field single = by_blank blank_byte wanted_byte (are_blank field) refl
+rest_like : (blank_byte required_byte : Bool) (required : PatternPart) (pattern : List PatternPart) (field : List ℕ) → is_single required ≡ true
+    → (required_byte && has_text (is_text_like (required ∷ pattern)) field)
+    ≡ (not (blank_byte && are_blank field) && (required_byte && like (required ∷ pattern) field))
+rest_like blank_byte required_byte required pattern field single = by_blank blank_byte required_byte (are_blank field) refl
   where
-    none : are_blank field ≡ true → like (wanted ∷ pattern) field ≡ false
-    none is = ap (λ (text : List ℕ). is_text_like (wanted ∷ pattern) text) (trimmed_blank field is) ∙ like_none wanted pattern single
+    none : are_blank field ≡ true → like (required ∷ pattern) field ≡ false
+    none is = ap (λ (text : List ℕ). is_text_like (required ∷ pattern) text) (trimmed_blank field is) ∙ like_none required pattern single
 
-    by_blank : (blank_byte wanted_byte blank : Bool) → are_blank field ≡ blank
-        → (wanted_byte && (not blank && like (wanted ∷ pattern) field))
-        ≡ (not (blank_byte && blank) && (wanted_byte && like (wanted ∷ pattern) field))
+    by_blank : (blank_byte required_byte blank : Bool) → are_blank field ≡ blank
+        → (required_byte && (not blank && like (required ∷ pattern) field))
+        ≡ (not (blank_byte && blank) && (required_byte && like (required ∷ pattern) field))
     by_blank true true true is = refl
     by_blank true false true is = refl
     by_blank false true true is = sym (none is)
     by_blank false false true is = refl
-    by_blank true wanted_byte false is = refl
-    by_blank false wanted_byte false is = refl
+    by_blank true required_byte false is = refl
+    by_blank false required_byte false is = refl
 
 -- A field isn't blank and its text matches a piece exactly if the field begins with the bytes that the piece wants, is blank after them unless
--- the pattern is open, and isn't blank from the last wanted byte on.
+-- the pattern is open, and isn't blank from the last required byte on.
 pub like_parts : (piece : List PatternPart) (is_open : Bool) (field : List ℕ) → IsPiece piece → length piece ≤ length field
     → (wants piece field && ((is_open || closes piece field) && fills piece field)) ≡ has_text (is_text_like (ending piece is_open)) field
 like_parts [] is_open field are long =
@@ -111,29 +111,29 @@ like_parts [] is_open field are long =
     by_blank true false = refl
     by_blank false true = refl
     by_blank false false = refl
-like_parts (wanted ∷ piece) is_open [] are long = absurd (omega arith)
-like_parts (wanted ∷ []) is_open (byte ∷ field) are long =
-    last_wanted (takes wanted byte) (is_open || are_blank field) (not (are_blank (byte ∷ field)))
-    ∙ ap (λ (like : Bool). not (are_blank (byte ∷ field)) && (takes wanted byte && like)) (sym (like_nothing is_open field))
-    ∙ sym (has_more wanted (ending [] is_open) byte field are.0.single)
-like_parts (wanted ∷ next ∷ piece) is_open (byte ∷ field) are long =
-    sym (and_assoc (takes wanted byte) (wants (next ∷ piece) field) _)
-    ∙ ap (λ (rest : Bool). takes wanted byte && rest) (like_parts (next ∷ piece) is_open field are.1 (omega arith))
-    ∙ rest_like (byte == 32) (takes wanted byte) next (ending piece is_open) field are.1.0.single
-    ∙ sym (has_more wanted (ending (next ∷ piece) is_open) byte field are.0.single)
+like_parts (required ∷ piece) is_open [] are long = absurd (omega arith)
+like_parts (required ∷ []) is_open (byte ∷ field) are long =
+    last_required (takes required byte) (is_open || are_blank field) (not (are_blank (byte ∷ field)))
+    ∙ ap (λ (like : Bool). not (are_blank (byte ∷ field)) && (takes required byte && like)) (sym (like_nothing is_open field))
+    ∙ sym (has_more required (ending [] is_open) byte field are.0.single)
+like_parts (required ∷ next ∷ piece) is_open (byte ∷ field) are long =
+    sym (and_assoc (takes required byte) (wants (next ∷ piece) field) _)
+    ∙ ap (λ (rest : Bool). takes required byte && rest) (like_parts (next ∷ piece) is_open field are.1 (omega arith))
+    ∙ rest_like (byte == 32) (takes required byte) next (ending piece is_open) field are.1.0.single
+    ∙ sym (has_more required (ending (next ∷ piece) is_open) byte field are.0.single)
 
-pub taken_piece : (piece pattern : List PatternPart) → IsPiece piece → taken (piece ++ pattern) ≡ length piece + taken pattern
+pub taken_piece : (piece pattern : List PatternPart) → IsPiece piece → least_length (piece ++ pattern) ≡ length piece + least_length pattern
 taken_piece [] pattern are = omega arith
 taken_piece (part ∷ piece) pattern are = one_more part are.0.single (taken_piece piece pattern are.1)
   where
-    one_more : (part : PatternPart) → is_single part ≡ true → taken (piece ++ pattern) ≡ length piece + taken pattern
-        → taken (part ∷ (piece ++ pattern)) ≡ suc (length piece) + taken pattern
-    one_more (Exactly wanted) single rest = omega arith
-    one_more (Alike folding wanted) single rest = omega arith
+    one_more : (part : PatternPart) → is_single part ≡ true → least_length (piece ++ pattern) ≡ length piece + least_length pattern
+        → least_length (part ∷ (piece ++ pattern)) ≡ suc (length piece) + least_length pattern
+    one_more (Exactly required) single rest = omega arith
+    one_more (Alike folding required) single rest = omega arith
     one_more One single rest = omega arith
     one_more Many single rest = absurd (false≢true single)
 
-pub taken_ending : (piece : List PatternPart) (is_open : Bool) → IsPiece piece → taken (ending piece is_open) ≡ length piece
+pub taken_ending : (piece : List PatternPart) (is_open : Bool) → IsPiece piece → least_length (ending piece is_open) ≡ length piece
 taken_ending piece true are = let sum = taken_piece piece (Many ∷ []) are in omega arith
 taken_ending piece false are = let sum = taken_piece piece [] are in omega arith
 
@@ -148,29 +148,29 @@ no_blank_by good byte filled is = by_byte (byte == 32) refl
     by_byte true same = absurd (not_both (good 32) filled (sym (ap good (eqb-true byte 32 same)) ∙ is))
     by_byte false same = refl
 
-no_blank : (wanted : PatternPart) (byte : ℕ) → is_filled wanted ≡ true → takes wanted byte ≡ true → (byte == 32) ≡ false
-no_blank (Exactly wanted) byte filled is = grind (arith, nat_tests)
-no_blank (Alike folding wanted) byte filled is = no_blank_by (λ other. is_alike folding other wanted) byte filled is
+no_blank : (required : PatternPart) (byte : ℕ) → is_filled required ≡ true → takes required byte ≡ true → (byte == 32) ≡ false
+no_blank (Exactly required) byte filled is = grind (arith, nat_tests)
+no_blank (Alike folding required) byte filled is = no_blank_by (λ other. is_alike folding other required) byte filled is
 no_blank One byte filled is = absurd (false≢true filled)
 no_blank Many byte filled is = absurd (false≢true filled)
 
--- if the last wanted byte is not a blank, a field that begins with the wanted bytes isn't blank there
+-- if the last required byte is not a blank, a field that begins with the required bytes isn't blank there
 filled_on : (piece : List PatternPart) (field : List ℕ) → ends_filled piece ≡ true → wants piece field ≡ true → fills piece field ≡ true
 filled_on [] field filled is = absurd (false≢true filled)
-filled_on (wanted ∷ piece) [] filled is = absurd (false≢true is)
-filled_on (wanted ∷ []) (byte ∷ field) filled is =
-    ap (λ (blank : Bool). not (blank && are_blank field)) (no_blank wanted byte filled (and_parts (takes wanted byte) true is).0)
-filled_on (wanted ∷ next ∷ piece) (byte ∷ field) filled is = filled_on (next ∷ piece) field filled (and_parts (takes wanted byte) _ is).1
+filled_on (required ∷ piece) [] filled is = absurd (false≢true is)
+filled_on (required ∷ []) (byte ∷ field) filled is =
+    ap (λ (blank : Bool). not (blank && are_blank field)) (no_blank required byte filled (and_parts (takes required byte) true is).0)
+filled_on (required ∷ next ∷ piece) (byte ∷ field) filled is = filled_on (next ∷ piece) field filled (and_parts (takes required byte) _ is).1
 
--- Wanted bytes of the record
+-- Bytes of the record that a pattern requires
 
 wants_take : (piece : List PatternPart) (count : ℕ) (bytes : List ℕ) → length piece ≤ count
     → wants piece bytes ≡ wants piece (take count bytes)
 wants_take [] count bytes few = refl
-wants_take (wanted ∷ piece) zero bytes few = absurd (omega arith)
-wants_take (wanted ∷ piece) (suc count) [] few = refl
-wants_take (wanted ∷ piece) (suc count) (byte ∷ bytes) few =
-    ap (λ (rest : Bool). takes wanted byte && rest) (wants_take piece count bytes (omega arith))
+wants_take (required ∷ piece) zero bytes few = absurd (omega arith)
+wants_take (required ∷ piece) (suc count) [] few = refl
+wants_take (required ∷ piece) (suc count) (byte ∷ bytes) few =
+    ap (λ (rest : Bool). takes required byte && rest) (wants_take piece count bytes (omega arith))
 
 -- a piece wants exactly these bytes, if it has exact bytes
 abbrev pub Spells : Option (List ℕ) → List PatternPart → Type 0
@@ -185,20 +185,20 @@ spells_more byte piece (Some bytes) is spelled = rw is (ap (λ (rest : List Patt
 pub spells : (piece : List PatternPart) → Spells (exact_bytes piece) piece
 spells [] = refl
 spells (Exactly byte ∷ piece) = spells_more byte piece (exact_bytes piece) refl (spells piece)
-spells (Alike folding wanted ∷ piece) = tt
+spells (Alike folding required ∷ piece) = tt
 spells (One ∷ piece) = tt
 spells (Many ∷ piece) = tt
 
-begins_wants : (bytes wanted : List ℕ) → begins bytes wanted ≡ wants (map Exactly wanted) bytes
+begins_wants : (bytes required : List ℕ) → begins bytes required ≡ wants (map Exactly required) bytes
 begins_wants bytes [] = refl
-begins_wants [] (byte ∷ wanted) = refl
-begins_wants (first ∷ bytes) (byte ∷ wanted) = ap (λ (rest : Bool). first == byte && rest) (begins_wants bytes wanted)
+begins_wants [] (byte ∷ required) = refl
+begins_wants (first ∷ bytes) (byte ∷ required) = ap (λ (rest : Bool). first == byte && rest) (begins_wants bytes required)
 
-pub small_wanted : (bytes : List ℕ) → are_bytes (map Exactly bytes) ≡ true → AreSmall bytes
-small_wanted [] are = tt
-small_wanted (byte ∷ bytes) are =
+pub small_required : (bytes : List ℕ) → are_bytes (map Exactly bytes) ≡ true → AreSmall bytes
+small_required [] are = tt
+small_required (byte ∷ bytes) are =
     let parts = and_parts (is_byte (Exactly byte)) (are_bytes (map Exactly bytes)) are in
-    (ltb-true byte 256 parts.0, small_wanted bytes parts.1)
+    (ltb-true byte 256 parts.0, small_required bytes parts.1)
 
 -- the bytes that a test chooses
 
@@ -255,12 +255,12 @@ pub record Fits (at : ℕ) (piece : List PatternPart) : Type 0 where
   pub within : at + length piece ≤ 228
   pub are : IsPiece piece
 
-pub fits_first : (at : ℕ) (wanted : PatternPart) (piece : List PatternPart) → Fits at (wanted ∷ piece)
-    → (at < 228) × (is_byte wanted ≡ true)
-fits_first at wanted piece fits = let within = fits.within in (omega arith, fits.are.0.is_byte)
+pub fits_first : (at : ℕ) (required : PatternPart) (piece : List PatternPart) → Fits at (required ∷ piece)
+    → (at < 228) × (is_byte required ≡ true)
+fits_first at required piece fits = let within = fits.within in (omega arith, fits.are.0.is_byte)
 
-pub fits_rest : (at : ℕ) (wanted : PatternPart) (piece : List PatternPart) → Fits at (wanted ∷ piece) → Fits (at + 1) piece
-fits_rest at wanted piece fits = let within = fits.within in record { within = omega arith; are = fits.are.1 }
+pub fits_rest : (at : ℕ) (required : PatternPart) (piece : List PatternPart) → Fits at (required ∷ piece) → Fits (at + 1) piece
+fits_rest at required piece fits = let within = fits.within in record { within = omega arith; are = fits.are.1 }
 
 module _ (segment : SegmentParts) (is : IsSegment segment) where
   among_found : (at : ℕ) (bytes : List ℕ) → at < 228 → AreSmall bytes
@@ -274,53 +274,53 @@ module _ (segment : SegmentParts) (is : IsSegment segment) where
   among_found at (byte ∷ next ∷ bytes) within small =
       ap (λ (number : ℕ). list_any (λ other. number == other) (byte ∷ next ∷ bytes)) (byte_read segment is at within)
 
-  byte_wanted : (at : ℕ) (wanted : PatternPart) → at < 228 → is_byte wanted ≡ true
-      → answer (is_wanted at wanted) segment ≡ takes wanted (get_or segment.bytes at 0)
-  byte_wanted at (Exactly byte) within are = byte_equals segment is at byte within (ltb-true byte 256 are)
-  byte_wanted at (Alike folding wanted) within are =
-      among_found at (bytes_alike folding wanted) within (small_where (λ byte. is_alike folding byte wanted) 256 (omega arith))
-      ∙ where_any (λ byte. is_alike folding byte wanted) 256 (get_or segment.bytes at 0) (is.bytes.bytes at)
-  byte_wanted at One within are = refl
-  byte_wanted at Many within are = refl
+  byte_required : (at : ℕ) (required : PatternPart) → at < 228 → is_byte required ≡ true
+      → answer (is_required at required) segment ≡ takes required (get_or segment.bytes at 0)
+  byte_required at (Exactly byte) within are = byte_equals segment is at byte within (ltb-true byte 256 are)
+  byte_required at (Alike folding required) within are =
+      among_found at (bytes_alike folding required) within (small_where (λ byte. is_alike folding byte required) 256 (omega arith))
+      ∙ where_any (λ byte. is_alike folding byte required) 256 (get_or segment.bytes at 0) (is.bytes.bytes at)
+  byte_required at One within are = refl
+  byte_required at Many within are = refl
 
-  first_wanted : (at : ℕ) (wanted : PatternPart) (piece : List PatternPart) → at < 228 → wants (wanted ∷ piece) (drop at segment.bytes)
-      ≡ (takes wanted (get_or segment.bytes at 0) && wants piece (drop (at + 1) segment.bytes))
-  first_wanted at wanted piece within = ap (λ (bytes : List ℕ). wants (wanted ∷ piece) bytes) (first_byte segment is at within)
+  first_required : (at : ℕ) (required : PatternPart) (piece : List PatternPart) → at < 228 → wants (required ∷ piece) (drop at segment.bytes)
+      ≡ (takes required (get_or segment.bytes at 0) && wants piece (drop (at + 1) segment.bytes))
+  first_required at required piece within = ap (λ (bytes : List ℕ). wants (required ∷ piece) bytes) (first_byte segment is at within)
 
-  each_wanted : (at : ℕ) (piece : List PatternPart) → Fits at piece
-      → answer (is_each_wanted at piece) segment ≡ wants piece (drop at segment.bytes)
-  each_wanted at [] fits = refl
-  each_wanted at (wanted ∷ []) fits =
-      let first = fits_first at wanted [] fits in
-      byte_wanted at wanted first.0 first.1
-      ∙ sym (and_true (takes wanted (get_or segment.bytes at 0))) ∙ sym (first_wanted at wanted [] first.0)
-  each_wanted at (wanted ∷ next ∷ piece) fits =
-      let first = fits_first at wanted (next ∷ piece) fits in
-      let others = each_wanted (at + 1) (next ∷ piece) (fits_rest at wanted (next ∷ piece) fits) in
-      both_answers (byte_wanted at wanted first.0 first.1) others
-      ∙ sym (first_wanted at wanted (next ∷ piece) first.0)
+  each_required : (at : ℕ) (piece : List PatternPart) → Fits at piece
+      → answer (is_each_required at piece) segment ≡ wants piece (drop at segment.bytes)
+  each_required at [] fits = refl
+  each_required at (required ∷ []) fits =
+      let first = fits_first at required [] fits in
+      byte_required at required first.0 first.1
+      ∙ sym (and_true (takes required (get_or segment.bytes at 0))) ∙ sym (first_required at required [] first.0)
+  each_required at (required ∷ next ∷ piece) fits =
+      let first = fits_first at required (next ∷ piece) fits in
+      let others = each_required (at + 1) (next ∷ piece) (fits_rest at required (next ∷ piece) fits) in
+      both_answers (byte_required at required first.0 first.1) others
+      ∙ sym (first_required at required (next ∷ piece) first.0)
 
-  wanted_by : (at : ℕ) (piece : List PatternPart) (exact : Option (List ℕ)) → exact_bytes piece ≡ exact → Spells exact piece
-      → Fits at piece → answer (are_wanted at piece) segment ≡ wants piece (drop at segment.bytes)
-  wanted_by at piece None exact spelled fits = rw exact (each_wanted at piece fits)
-  wanted_by at piece (Some bytes) exact spelled fits =
+  required_by : (at : ℕ) (piece : List PatternPart) (exact : Option (List ℕ)) → exact_bytes piece ≡ exact → Spells exact piece
+      → Fits at piece → answer (are_required at piece) segment ≡ wants piece (drop at segment.bytes)
+  required_by at piece None exact spelled fits = rw exact (each_required at piece fits)
+  required_by at piece (Some bytes) exact spelled fits =
       let count : length piece ≡ length bytes = ap length spelled ∙ length-map bytes Exactly in
       let within = fits.within in
-      rw exact (bytes_found segment is at bytes (small_wanted bytes (sym (ap are_bytes spelled) ∙ piece_bytes piece fits.are)) (omega arith)
+      rw exact (bytes_found segment is at bytes (small_required bytes (sym (ap are_bytes spelled) ∙ piece_bytes piece fits.are)) (omega arith)
       ∙ begins_wants (drop at segment.bytes) bytes
-      ∙ sym (ap (λ (wanted : List PatternPart). wants wanted (drop at segment.bytes)) spelled))
+      ∙ sym (ap (λ (required : List PatternPart). wants required (drop at segment.bytes)) spelled))
 
-  wanted_found : (at : ℕ) (piece : List PatternPart) → Fits at piece
-      → answer (are_wanted at piece) segment ≡ wants piece (drop at segment.bytes)
-  wanted_found at piece fits = wanted_by at piece (exact_bytes piece) refl (spells piece) fits
+  required_found : (at : ℕ) (piece : List PatternPart) → Fits at piece
+      → answer (are_required at piece) segment ≡ wants piece (drop at segment.bytes)
+  required_found at piece fits = required_by at piece (exact_bytes piece) refl (spells piece) fits
 
 -- Fields of columns
 
-with_fills : (wanted filled : Bool) → (wanted ≡ true → filled ≡ true) → wanted ≡ (wanted && filled)
+with_fills : (required filled : Bool) → (required ≡ true → filled ≡ true) → required ≡ (required && filled)
 with_fills true filled so = sym (so refl)
 with_fills false filled so = refl
 
-with_both : (wanted closed filled : Bool) → (wanted ≡ true → filled ≡ true) → (wanted && closed) ≡ (wanted && (closed && filled))
+with_both : (required closed filled : Bool) → (required ≡ true → filled ≡ true) → (required && closed) ≡ (required && (closed && filled))
 with_both true closed filled so = sym (ap (λ (b : Bool). closed && b) (so refl) ∙ and_true closed)
 with_both false closed filled so = refl
 
@@ -351,11 +351,11 @@ module _ (segment : SegmentParts) (is : IsSegment segment) (field : Field) (lies
       ∙ ap (take rest) (drop-drop from field.offset segment.bytes)
 
   -- a piece is in a field from a byte on
-  pub wanted_here : (from : ℕ) (piece : List PatternPart) → FitsField field from piece
-      → answer (are_wanted (field.offset + from) piece) segment ≡ wants piece (drop from (bytes_in field segment))
-  wanted_here from piece fits =
+  pub required_here : (from : ℕ) (piece : List PatternPart) → FitsField field from piece
+      → answer (are_required (field.offset + from) piece) segment ≡ wants piece (drop from (bytes_in field segment))
+  required_here from piece fits =
       let within = fits.within in
-      wanted_found segment is (field.offset + from) piece (fits_record field lies from piece fits)
+      required_found segment is (field.offset + from) piece (fits_record field lies from piece fits)
       ∙ wants_take piece (field.width - from) (drop (field.offset + from) segment.bytes) (omega arith)
       ∙ sym (ap (wants piece) (field_from from (omega arith)))
 
@@ -379,7 +379,7 @@ module _ (segment : SegmentParts) (is : IsSegment segment) (field : Field) (lies
 
   filled_here : ends_filled piece ≡ true → wants piece (drop from (bytes_in field segment)) ≡ true
       → fills piece (drop from (bytes_in field segment)) ≡ true
-  filled_here filled wanted = filled_on piece (drop from (bytes_in field segment)) filled wanted
+  filled_here filled required = filled_on piece (drop from (bytes_in field segment)) filled required
 
   -- nothing follows after as many bytes as the field has
   whole_closes : from + length piece ≡ field.width → closes piece (drop from (bytes_in field segment)) ≡ true
@@ -388,26 +388,26 @@ module _ (segment : SegmentParts) (is : IsSegment segment) (field : Field) (lies
       ap are_blank (drop_all (length piece) (drop from (bytes_in field segment)) (omega (arith, length-drop from (bytes_in field segment))))
 
   ends_closed : (whole : Bool) → (from + length piece == field.width) ≡ whole → ends_filled piece ≡ true
-      → answer (both (are_wanted (field.offset + from) piece) (if whole then None
+      → answer (both (are_required (field.offset + from) piece) (if whole then None
       else Some (is_blank (field.offset + (from + length piece)) (field.width - (from + length piece))))) segment
       ≡ (wants piece (drop from (bytes_in field segment))
       && (closes piece (drop from (bytes_in field segment)) && fills piece (drop from (bytes_in field segment))))
   ends_closed true whole filled =
-      wanted_here segment is field lies from piece all.fits ∙ with_fills _ _ (filled_here filled)
+      required_here segment is field lies from piece all.fits ∙ with_fills _ _ (filled_here filled)
       ∙ ap (λ (closed : Bool). wants piece (drop from (bytes_in field segment)) && (closed && fills piece (drop from (bytes_in field segment))))
       (sym (whole_closes (eqb-true (from + length piece) field.width whole)))
   ends_closed false whole filled =
-      both_answers (wanted_here segment is field lies from piece all.fits) closes_here ∙ with_both _ _ _ (filled_here filled)
+      both_answers (required_here segment is field lies from piece all.fits) closes_here ∙ with_both _ _ _ (filled_here filled)
 
   ends_so_found : (is_open filled : Bool) → ends_filled piece ≡ filled
-      → answer (both (are_wanted (field.offset + from) piece) (ends_so is_open filled field (from + length piece))) segment
+      → answer (both (are_required (field.offset + from) piece) (ends_so is_open filled field (from + length piece))) segment
       ≡ (wants piece (drop from (bytes_in field segment))
       && ((is_open || closes piece (drop from (bytes_in field segment))) && fills piece (drop from (bytes_in field segment))))
-  ends_so_found true true filled = wanted_here segment is field lies from piece all.fits ∙ with_fills _ _ (filled_here filled)
-  ends_so_found true false filled = both_answers (wanted_here segment is field lies from piece all.fits) fills_here
+  ends_so_found true true filled = required_here segment is field lies from piece all.fits ∙ with_fills _ _ (filled_here filled)
+  ends_so_found true false filled = both_answers (required_here segment is field lies from piece all.fits) fills_here
   ends_so_found false true filled = ends_closed (from + length piece == field.width) refl filled
   ends_so_found false false filled =
-      both_answers (wanted_here segment is field lies from piece all.fits) (both_answers closes_here fills_here)
+      both_answers (required_here segment is field lies from piece all.fits) (both_answers closes_here fills_here)
 
   -- a pattern's last piece
   pub ends_found : (is_open : Bool) → answer (ends_at field piece is_open from) segment

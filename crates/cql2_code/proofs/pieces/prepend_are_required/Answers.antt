@@ -2,7 +2,7 @@ use Rattle.std.proofs.Common.{◌≡◌, length, ap, ◌∙◌, arith}
 use Rattle.std.proofs.lemmas.List.{length-map}
 use Rattle.cql2.specs.declared.pattern.PatternPart.TheVariants.{Exactly}
 use Rattle.cql2_code.proofs.PatternLemmas.{spelled}
-use Rattle.cql2_code.proofs.pieces.prepend_are_wanted.Goals as goal
+use Rattle.cql2_code.proofs.pieces.prepend_are_required.Goals as goal
 
 pub prepend_bytes-requires-clause-fits : goal.prepend_bytes-requires-clause-fits
 prepend_bytes-requires-clause-fits g c =
