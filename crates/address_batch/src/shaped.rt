@@ -21,7 +21,7 @@ pub(crate) fn placed_lookup<'a, A: Allocator + Copy>(
 {
     match lookup {
         LookupResult::Found(found) => {
-            let placed = placed(alloc, number, found.as_slice(), counties)?;
+            let placed = placed_matches(alloc, number, found.as_slice(), counties)?;
             Ok(LookupResult::Found(placed))
         }
         LookupResult::NotFound(reason) => Ok(LookupResult::NotFound(*reason)),
@@ -29,7 +29,7 @@ pub(crate) fn placed_lookup<'a, A: Allocator + Copy>(
 }
 
 /// Returns the matches of a house number, each in its place along the shape of its segment.
-fn placed<'a, A: Allocator + Copy>(
+fn placed_matches<'a, A: Allocator + Copy>(
     alloc: A,
     number: u64,
     found: &[Match<'a>],

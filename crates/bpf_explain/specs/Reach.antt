@@ -2,7 +2,7 @@
 use Rattle.std.specs.Prelude.{ℕ, ◌-◌, ℤ, Bool, true, false, List, [], ◌++◌, codes, decimal, Option, Some, None}
 use Rattle.std.specs.Fmt.{signed_decimal}
 use Rattle.bpf_helpers.specs.Helper.{signature}
-use Rattle.bpf_helpers.specs.Shape.{frame_use}
+use Rattle.bpf_helpers.specs.Group.{frame_use}
 use Rattle.bpf_helpers.specs.declared.helper.Helper.{Helper}
 use Rattle.bpf_helpers.specs.declared.signature.FrameUse.{FrameUse}
 use Rattle.bpf_helpers.specs.declared.signature.FrameUse.TheVariants as frame_use
@@ -76,7 +76,7 @@ is_write frame_use.Reads = false
 
 unfoldable pub writes_frame : Option Helper → Bool
 writes_frame None = false
-writes_frame (Some helper) = is_write (frame_use (signature helper).shape)
+writes_frame (Some helper) = is_write (frame_use (signature helper).group)
 
 -- a call that reads or writes outside the frame
 unfoldable pub lent_outside : AbstractState → Bool → Bytes → List ℕ

@@ -271,7 +271,7 @@ fn writes_frame(helper: Option<Helper>) -> bool
     ensures { result ≡ writes_frame helper }
 {
     match helper {
-        Some(helper) => is_write(helper.signature().shape.frame_use()),
+        Some(helper) => is_write(helper.signature().group.frame_use()),
         None => false,
     }
 }

@@ -18,18 +18,18 @@ use Rattle.tl_segments.specs.declared.range.RangeFields.{RangeFields}
 use Rattle.tl_segments.proofs.SegmentLemmas.{AreBytes-field_of, below-take}
 use Rattle.bpf_kinds.specs.Interval.{Admits, between, single}
 use Rattle.bpf_kinds.specs.declared.interval.Interval.{Interval}
-use Rattle.bpf_helpers.specs.Call.{Meaning, MeetsSignature, call, does, first, meaning, second, shape_of, third, written_length}
+use Rattle.bpf_helpers.specs.Call.{Meaning, MeetsSignature, call, does, first, meaning, second, group_of, third, written_length}
 use Rattle.bpf_helpers.specs.Call.Meaning.{ReadsRecord, ReadsSegment, ComparesFrame, CopiesIntoFrame, SetsScore}
 use Rattle.bpf_helpers.specs.Helper.{any_number, by_number, signature}
 use Rattle.bpf_helpers.specs.Meaning.{truth, bytes_at, field_number, or_zero, sides, first_bytes, coordinate_word}
-use Rattle.bpf_helpers.specs.Shape.{frame_use}
+use Rattle.bpf_helpers.specs.Group.{frame_use}
 use Rattle.bpf_helpers.specs.declared.fields.TheConstants.{FIELDS, COORDINATES}
 use Rattle.bpf_helpers.specs.declared.helper.Helper.{Helper}
 use Rattle.bpf_helpers.specs.declared.helper.Helper.TheVariants.{Field, HasField, NameCount, RangeCount, InRange, NameCopy, NameIs, Emit, Coord}
 use Rattle.bpf_helpers.specs.declared.helper.TheConstants.{HELPERS}
 use Rattle.bpf_helpers.specs.declared.signature.Argument.TheVariants.{Unused, Number, Frame}
 use Rattle.bpf_helpers.specs.declared.signature.FrameUse.TheVariants.{Nothing, Writes}
-use Rattle.bpf_helpers.specs.declared.signature.Shape.{Shape}
+use Rattle.bpf_helpers.specs.declared.signature.Group.{Group}
 
 -- `find` returns the first element or one of the rest that passes the test
 found-by : {X : Type 0} (p : X → Bool) (y : X) (ys : List X) (x : X) (b : Bool) → p y ≡ b → (find p ys ≡ Some x → p x ≡ true)
@@ -51,11 +51,11 @@ by_number_own number helper found =
 
 -- a call that reads or writes the frame takes a pointer into it as its second argument, and a byte count as its third
 
-pub frame_pointer : (helper : Helper) → frame_use (signature helper).shape ≢ Nothing → get_or (signature helper).arguments 1 Unused ≡ Frame
+pub frame_pointer : (helper : Helper) → frame_use (signature helper).group ≢ Nothing → get_or (signature helper).arguments 1 Unused ≡ Frame
 frame_pointer Field uses = absurd (uses refl)
 frame_pointer otherwise uses = grind arith
 
-pub frame_length : (helper : Helper) → frame_use (signature helper).shape ≢ Nothing
+pub frame_length : (helper : Helper) → frame_use (signature helper).group ≢ Nothing
     → get_or (signature helper).arguments 2 Unused ≡ Number (between 1 30)
 frame_length Field uses = absurd (uses refl)
 frame_length otherwise uses = grind arith
@@ -66,10 +66,10 @@ pub three-required : (helper : Helper) → get_or (signature helper).arguments 0
 three-required Field = refl
 three-required otherwise = refl
 
--- the shape in the table is that of the helper function's meaning
-pub shape-is : (helper : Helper) → shape_of (meaning helper) ≡ (signature helper).shape
-shape-is Field = refl
-shape-is otherwise = refl
+-- the group in the table is that of the helper function's meaning
+pub group-is : (helper : Helper) → group_of (meaning helper) ≡ (signature helper).group
+group-is Field = refl
+group-is otherwise = refl
 
 -- all answers are words
 below-any_number : (helper : Helper) → (signature helper).answer.high < 2 ^ 64
@@ -196,33 +196,33 @@ answer-fits helper segment arguments bytes score is meets =
 -- a call that writes to the frame writes the number of bytes given by its third argument
 
 does-bytes : (m : Meaning) (answer : Interval) (segment : SegmentParts) (arguments bytes : List ℕ) (score : ℕ) → IsSegment segment
-    → IsBounded m answer arguments → AreBytes (written_length (frame_use (shape_of m)) arguments)
+    → IsBounded m answer arguments → AreBytes (written_length (frame_use (group_of m)) arguments)
     (does m segment arguments bytes score).written
 does-bytes (CopiesIntoFrame copied) answer segment arguments bytes score is bounded =
     AreBytes-first (third arguments) (copied segment arguments) (bounded.2 segment is) bounded.1
 does-bytes otherwise answer segment arguments bytes score is bounded = AreBytes-none
 
 pub written-bytes : (helper : Helper) (segment : SegmentParts) (arguments bytes : List ℕ) (score : ℕ) → IsSegment segment
-    → MeetsSignature helper arguments → AreBytes (written_length (frame_use (signature helper).shape) arguments)
+    → MeetsSignature helper arguments → AreBytes (written_length (frame_use (signature helper).group) arguments)
     (call helper segment arguments bytes score).written
 written-bytes helper segment arguments bytes score is meets =
-    subst (λ (s : Shape). AreBytes (written_length (frame_use s) arguments) (call helper segment arguments bytes score).written)
-    (shape-is helper)
+    subst (λ (s : Group). AreBytes (written_length (frame_use s) arguments) (call helper segment arguments bytes score).written)
+    (group-is helper)
     (does-bytes (meaning helper) (signature helper).answer segment arguments bytes score is (is-bounded helper arguments meets))
 
 pub written-length : (helper : Helper) (segment : SegmentParts) (arguments bytes : List ℕ) (score : ℕ) → IsSegment segment
     → MeetsSignature helper arguments → length (call helper segment arguments bytes score).written ≡ written_length
-    (frame_use (signature helper).shape) arguments
+    (frame_use (signature helper).group) arguments
 written-length helper segment arguments bytes score is meets = (written-bytes helper segment arguments bytes score is meets).length
 
 -- other calls write nothing
 
-does-write-nothing : (m : Meaning) (segment : SegmentParts) (arguments bytes : List ℕ) (score : ℕ) → frame_use (shape_of m) ≢ Writes
+does-write-nothing : (m : Meaning) (segment : SegmentParts) (arguments bytes : List ℕ) (score : ℕ) → frame_use (group_of m) ≢ Writes
     → (does m segment arguments bytes score).written ≡ []
 does-write-nothing (CopiesIntoFrame copied) segment arguments bytes score not = absurd (not refl)
 does-write-nothing otherwise segment arguments bytes score not = refl
 
 pub written-nothing : (helper : Helper) (segment : SegmentParts) (arguments bytes : List ℕ) (score : ℕ)
-    → frame_use (signature helper).shape ≢ Writes → (call helper segment arguments bytes score).written ≡ []
+    → frame_use (signature helper).group ≢ Writes → (call helper segment arguments bytes score).written ≡ []
 written-nothing helper segment arguments bytes score not =
-    does-write-nothing (meaning helper) segment arguments bytes score (λ writes. not (ap frame_use (sym (shape-is helper)) ∙ writes))
+    does-write-nothing (meaning helper) segment arguments bytes score (λ writes. not (ap frame_use (sym (group-is helper)) ∙ writes))

@@ -6,15 +6,15 @@ use Rattle.bpf_insn.specs.declared.memory.TheConstants.{FRAME_LENGTH}
 use Rattle.bpf_kinds.specs.Interval.{Admits}
 use Rattle.bpf_helpers.specs.Helper.{signature}
 use Rattle.bpf_helpers.specs.Meaning.{truth, field_number, or_zero, sides, is_name, first_bytes, coordinate}
-use Rattle.bpf_helpers.specs.Shape.{frame_use}
+use Rattle.bpf_helpers.specs.Group.{frame_use}
 use Rattle.bpf_helpers.specs.declared.helper.Helper.{Helper}
 use Rattle.bpf_helpers.specs.declared.helper.Helper.TheVariants.{Field, HasField, NameCount, RangeCount, InRange, NameCopy, NameIs, Emit, Coord}
 use Rattle.bpf_helpers.specs.declared.signature.Argument.{Argument}
 use Rattle.bpf_helpers.specs.declared.signature.Argument.TheVariants.{Unused, Number, Frame}
 use Rattle.bpf_helpers.specs.declared.signature.FrameUse.{FrameUse}
 use Rattle.bpf_helpers.specs.declared.signature.FrameUse.TheVariants.{Nothing, Writes, Reads}
-use Rattle.bpf_helpers.specs.declared.signature.Shape.{Shape}
-use Rattle.bpf_helpers.specs.declared.signature.Shape.TheVariants as shape
+use Rattle.bpf_helpers.specs.declared.signature.Group.{Group}
+use Rattle.bpf_helpers.specs.declared.signature.Group.TheVariants as group
 
 -- the first, second and third argument, in registers 1 to 3
 abbrev pub first : List ℕ → ℕ
@@ -42,7 +42,7 @@ LieWithin Reads arguments = second arguments + third arguments ≤ FRAME_LENGTH
 pub record MeetsSignature (helper : Helper) (arguments : List ℕ) : Type 0 where
   pub count : length arguments ≡ 3
   pub each : (at : ℕ) → Meets (get_or (signature helper).arguments at Unused) (get_or arguments at 0)
-  pub within : LieWithin (frame_use (signature helper).shape) arguments
+  pub within : LieWithin (frame_use (signature helper).group) arguments
 
 -- the bytes of the frame that a call reads
 abbrev pub bytes_read : {A : Type 0} → FrameUse → List ℕ → List A → List A
@@ -68,7 +68,7 @@ pub record Called : Type 0 where
 abbrev pub answers : ℕ → ℕ → Called
 answers score answer = record { answer = answer; written = []; score = score }
 
--- The meaning of a helper function, by its shape: a number computed from the record's bytes or from the segment, and the arguments; whether a part
+-- The meaning of a helper function, by its group: a number computed from the record's bytes or from the segment, and the arguments; whether a part
 -- of the segment equals bytes of the frame; what is copied into the frame, if the segment has it; the new score.
 pub data Meaning : Type 0 where
   ReadsRecord : (computed : List ℕ → List ℕ → ℕ) → Meaning
@@ -77,12 +77,12 @@ pub data Meaning : Type 0 where
   CopiesIntoFrame : (copied : SegmentParts → List ℕ → Option (List ℕ)) → Meaning
   SetsScore : (set : List ℕ → ℕ) → Meaning
 
-abbrev pub shape_of : Meaning → Shape
-shape_of (ReadsRecord computed) = shape.ReadsRecord
-shape_of (ReadsSegment computed) = shape.ReadsSegment
-shape_of (ComparesFrame equal) = shape.ComparesFrame
-shape_of (CopiesIntoFrame copied) = shape.CopiesIntoFrame
-shape_of (SetsScore set) = shape.SetsScore
+abbrev pub group_of : Meaning → Group
+group_of (ReadsRecord computed) = group.ReadsRecord
+group_of (ReadsSegment computed) = group.ReadsSegment
+group_of (ComparesFrame equal) = group.ComparesFrame
+group_of (CopiesIntoFrame copied) = group.CopiesIntoFrame
+group_of (SetsScore set) = group.SetsScore
 
 -- the meaning of each helper function
 abbrev pub meaning : Helper → Meaning

@@ -1,4 +1,4 @@
-pub mod Shape
+pub mod Group
 pub mod Helper
 pub mod Meaning
 pub mod Call

@@ -4,7 +4,7 @@ ghost use Rattle.bpf_kinds.specs.Interval.{Admits};
 ghost use Rattle.bpf_helpers.specs.Call.{MeetsSignature, bytes_read, call, second, write};
 ghost use Rattle.bpf_helpers.specs.Helper.{signature};
 ghost use Rattle.bpf_helpers.specs.Meaning.{first_bytes, is_name, sides};
-ghost use Rattle.bpf_helpers.specs.Shape.{frame_use};
+ghost use Rattle.bpf_helpers.specs.Group.{frame_use};
 ghost use Rattle.tl_segments.specs.Segment.{names_of, ranges_of};
 
 use crate::fields::{coordinate, field_number};
@@ -25,11 +25,11 @@ pub fn call<A: Allocator>(
 ) -> u64
     requires { MeetsSignature helper arguments }
     ensures answer { result ≡
-        (call helper segment.now arguments (bytes_read (frame_use (signature helper).shape) arguments frame.old) score.old).answer }
+        (call helper segment.now arguments (bytes_read (frame_use (signature helper).group) arguments frame.old) score.old).answer }
     ensures frame { frame.new ≡ write frame.old (second arguments)
-        (call helper segment.now arguments (bytes_read (frame_use (signature helper).shape) arguments frame.old) score.old).written }
+        (call helper segment.now arguments (bytes_read (frame_use (signature helper).group) arguments frame.old) score.old).written }
     ensures score { score.new ≡
-        (call helper segment.now arguments (bytes_read (frame_use (signature helper).shape) arguments frame.old) score.old).score }
+        (call helper segment.now arguments (bytes_read (frame_use (signature helper).group) arguments frame.old) score.old).score }
     ensures interval { Admits (signature helper).answer result }
 {
     // Words, neither values nor kinds, so that the machine can call this directly.

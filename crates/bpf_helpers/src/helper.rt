@@ -3,7 +3,7 @@ ghost use Rattle.std.specs.Prelude.{◌≡◌};
 ghost use Rattle.bpf_helpers.specs.Helper.{by_number, name, unary, reads_record_alone, signature, binary};
 ghost use Rattle.bpf_kinds.specs.Interval.{between};
 
-use crate::signature::{Argument, Shape, Signature};
+use crate::signature::{Argument, Group, Signature};
 use bpf_kinds::Interval;
 use tl_segments::{MAX_NAMES, MAX_RANGES};
 
@@ -99,7 +99,7 @@ impl Helper {
     pub fn reads_record_alone(self) -> bool
         ensures { result ≡ reads_record_alone self }
     {
-        self.signature().shape.reads_record_alone()
+        self.signature().group.reads_record_alone()
     }
 
     /// Returns the helper's row in the table of prototypes.
@@ -108,23 +108,23 @@ impl Helper {
     {
         match self {
             // An address field has 11 digits, more than any other.
-            Helper::Field => row(1, unary(FIELD_IDS), Shape::ReadsRecord, 0, 99_999_999_999),
-            Helper::HasField => row(2, unary(FIELD_IDS), Shape::ReadsRecord, 0, 1),
-            Helper::NameCount => row(3, NO_ARGUMENTS, Shape::ReadsSegment, 0, MAX_NAMES as u64),
+            Helper::Field => row(1, unary(FIELD_IDS), Group::ReadsRecord, 0, 99_999_999_999),
+            Helper::HasField => row(2, unary(FIELD_IDS), Group::ReadsRecord, 0, 1),
+            Helper::NameCount => row(3, NO_ARGUMENTS, Group::ReadsSegment, 0, MAX_NAMES as u64),
             // The record of type 1 has a range of its own.
             Helper::RangeCount => row(
                 4,
                 NO_ARGUMENTS,
-                Shape::ReadsSegment,
+                Group::ReadsSegment,
                 1,
                 MAX_RANGES as u64 + 1,
             ),
-            Helper::InRange => row(5, binary(ANY_NUMBER, ANY_NUMBER), Shape::ReadsSegment, 0, 3),
-            Helper::NameCopy => row(6, NAME_AND_BYTES, Shape::CopiesIntoFrame, 0, 1),
-            Helper::NameIs => row(7, NAME_AND_BYTES, Shape::ComparesFrame, 0, 1),
-            Helper::Emit => row(8, unary(ANY_NUMBER), Shape::SetsScore, 0, 0),
+            Helper::InRange => row(5, binary(ANY_NUMBER, ANY_NUMBER), Group::ReadsSegment, 0, 3),
+            Helper::NameCopy => row(6, NAME_AND_BYTES, Group::CopiesIntoFrame, 0, 1),
+            Helper::NameIs => row(7, NAME_AND_BYTES, Group::ComparesFrame, 0, 1),
+            Helper::Emit => row(8, unary(ANY_NUMBER), Group::SetsScore, 0, 0),
             // A coordinate is in two's complement, so one in the west or south is a large number.
-            Helper::Coord => row(9, unary(COORDINATE_IDS), Shape::ReadsRecord, 0, u64::MAX),
+            Helper::Coord => row(9, unary(COORDINATE_IDS), Group::ReadsRecord, 0, u64::MAX),
         }
     }
 }
@@ -141,13 +141,13 @@ fn binary(x: Interval, y: Interval) -> [Argument; 3]
     [Argument::Number(x), Argument::Number(y), Argument::Unused]
 }
 
-fn row(number: u32, arguments: [Argument; 3], shape: Shape, low: u64, high: u64) -> Signature
-    ensures { result ≡ record { number = number; arguments = arguments; shape = shape; answer = between low high } }
+fn row(number: u32, arguments: [Argument; 3], group: Group, low: u64, high: u64) -> Signature
+    ensures { result ≡ record { number = number; arguments = arguments; group = group; answer = between low high } }
 {
     Signature {
         number,
         arguments,
-        shape,
+        group,
         answer: Interval { low, high },
     }
 }

@@ -1,8 +1,8 @@
 //! Laws over the definitions, as contracts of functions that do nothing.
 ghost use Rattle.std.specs.Prelude.{◌≡◌, ◌≢◌, ℕ, ◌+◌, ◌-◌, ◌^◌, ◌<◌, ◌≤◌, List, [], length, get_or, slice_get, slice_index, codes, IsTrue, Some, None};
-ghost use Rattle.bpf_helpers.specs.Call.{MeetsSignature, call, first, meaning, shape_of, write, written_length};
+ghost use Rattle.bpf_helpers.specs.Call.{MeetsSignature, call, first, meaning, group_of, write, written_length};
 ghost use Rattle.bpf_helpers.specs.Helper.{by_number, reads_record_alone, signature};
-ghost use Rattle.bpf_helpers.specs.Shape.{frame_use};
+ghost use Rattle.bpf_helpers.specs.Group.{frame_use};
 ghost use Rattle.bpf_helpers.specs.declared.helper.Helper.{Helper};
 ghost use Rattle.bpf_helpers.specs.declared.helper.Helper.TheVariants.{Field, HasField, NameCount, RangeCount, InRange, NameCopy, NameIs, Emit, Coord};
 ghost use Rattle.bpf_helpers.specs.declared.signature.Argument.TheVariants.{Unused, Number, Frame};
@@ -80,17 +80,17 @@ pub fn bounds()
     ensures greatest_number { number_of (codes "99999999999") ≡ Some (signature Field).answer.high }
 {}
 
-/// The shape in the table of prototypes is the shape of the helper function's meaning.
-pub fn shapes()
-    ensures { (helper : Helper) → (signature helper).shape ≡ shape_of (meaning helper) }
+/// The group in the table of prototypes is the group of the helper function's meaning.
+pub fn groups()
+    ensures { (helper : Helper) → (signature helper).group ≡ group_of (meaning helper) }
 {}
 
 /// The second argument of a call that reads or writes the frame is a pointer into it, and the third a length of 1 to 30 bytes.
 #[tactic(auto, using(crate::proofs::CallLemmas::frame_pointer, crate::proofs::CallLemmas::frame_length))]
 pub fn frame_uses()
-    ensures pointer { (helper : Helper) → frame_use (signature helper).shape ≢ Nothing
+    ensures pointer { (helper : Helper) → frame_use (signature helper).group ≢ Nothing
         → get_or (signature helper).arguments 1 Unused ≡ Frame }
-    ensures length { (helper : Helper) → frame_use (signature helper).shape ≢ Nothing
+    ensures length { (helper : Helper) → frame_use (signature helper).group ≢ Nothing
         → get_or (signature helper).arguments 2 Unused ≡ Number (between 1 NAME_LENGTH) }
 {}
 
@@ -106,10 +106,10 @@ pub fn answers()
 pub fn written_bytes()
     ensures length { (helper : Helper) (segment : SegmentParts) (arguments bytes : List ℕ) (score : ℕ) → IsSegment segment
         → MeetsSignature helper arguments
-        → length (call helper segment arguments bytes score).written ≡ written_length (frame_use (signature helper).shape) arguments }
+        → length (call helper segment arguments bytes score).written ≡ written_length (frame_use (signature helper).group) arguments }
     ensures bytes { (helper : Helper) (segment : SegmentParts) (arguments bytes : List ℕ) (score i : ℕ) → IsSegment segment
         → MeetsSignature helper arguments → slice_index (call helper segment arguments bytes score).written i < 2 ^ 8 }
-    ensures none { (helper : Helper) (segment : SegmentParts) (arguments bytes : List ℕ) (score : ℕ) → frame_use (signature helper).shape ≢ Writes
+    ensures none { (helper : Helper) (segment : SegmentParts) (arguments bytes : List ℕ) (score : ℕ) → frame_use (signature helper).group ≢ Writes
         → (call helper segment arguments bytes score).written ≡ [] }
 {}
 

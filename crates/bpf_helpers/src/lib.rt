@@ -9,4 +9,4 @@ mod signature;
 
 pub use calls::call;
 pub use helper::{HELPERS, Helper};
-pub use signature::{Argument, FrameUse, Shape, Signature};
+pub use signature::{Argument, FrameUse, Group, Signature};

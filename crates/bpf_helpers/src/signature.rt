@@ -1,6 +1,6 @@
 //! The signatures of helper functions: their arguments, their answers, and what they read and change.
 ghost use Rattle.std.specs.Prelude.{◌≡◌};
-ghost use Rattle.bpf_helpers.specs.Shape.{frame_use, reads_record_alone};
+ghost use Rattle.bpf_helpers.specs.Group.{frame_use, reads_record_alone};
 
 use bpf_kinds::Interval;
 
@@ -12,7 +12,7 @@ pub struct Signature {
     /// What registers 1 to 3 must hold.
     pub arguments: [Argument; 3],
     /// What a call reads and changes.
-    pub shape: Shape,
+    pub group: Group,
     /// The numbers that register 0 may hold after the call.
     pub answer: Interval,
 }
@@ -28,10 +28,10 @@ pub enum Argument {
     Frame,
 }
 
-// Proofs go by shape, so that a new helper function needs nothing there except its bounds.
-/// What a call reads besides its arguments, and what it changes besides its answer.
+// Proofs go by group, so that a new helper function needs nothing there except its bounds.
+/// What the calls of a group read besides their arguments, and change besides their answers.
 #[derive(Clone, Copy, PartialEq, Eq)]
-pub enum Shape {
+pub enum Group {
     /// Returns a number read from the segment's type 1 record.
     ReadsRecord,
     /// Returns a number read from the segment.
@@ -44,15 +44,15 @@ pub enum Shape {
     SetsScore,
 }
 
-impl Shape {
+impl Group {
     /// Returns how a call uses the frame.
     pub fn frame_use(self) -> FrameUse
         ensures { result ≡ frame_use self }
     {
         match self {
-            Shape::ReadsRecord | Shape::ReadsSegment | Shape::SetsScore => FrameUse::Nothing,
-            Shape::ComparesFrame => FrameUse::Reads,
-            Shape::CopiesIntoFrame => FrameUse::Writes,
+            Group::ReadsRecord | Group::ReadsSegment | Group::SetsScore => FrameUse::Nothing,
+            Group::ComparesFrame => FrameUse::Reads,
+            Group::CopiesIntoFrame => FrameUse::Writes,
         }
     }
 
@@ -61,8 +61,8 @@ impl Shape {
         ensures { result ≡ reads_record_alone self }
     {
         match self {
-            Shape::ReadsRecord | Shape::SetsScore => true,
-            Shape::ReadsSegment | Shape::ComparesFrame | Shape::CopiesIntoFrame => false,
+            Group::ReadsRecord | Group::SetsScore => true,
+            Group::ReadsSegment | Group::ComparesFrame | Group::CopiesIntoFrame => false,
         }
     }
 }

@@ -14,7 +14,7 @@ use Rattle.bpf_insn.specs.declared.value.Value.TheVariants as value
 use Rattle.bpf_kinds.specs.declared.interval.Interval.{Interval}
 use Rattle.bpf_helpers.specs.Call.{LieWithin, MeetsSignature, bytes_read, call, second, third, write, written_length}
 use Rattle.bpf_helpers.specs.Helper.{signature}
-use Rattle.bpf_helpers.specs.Shape.{frame_use}
+use Rattle.bpf_helpers.specs.Group.{frame_use}
 use Rattle.bpf_helpers.specs.declared.helper.Helper.{Helper}
 use Rattle.bpf_helpers.specs.declared.signature.Argument.{Argument}
 use Rattle.bpf_helpers.specs.declared.signature.Argument.TheVariants as argument
@@ -182,21 +182,21 @@ module _ (segment : SegmentParts) (state : State) (words : Words) (is : IsSegmen
   called_alike : (arguments : List ℕ) → effect.CanBeCalled state helper arguments
       → called segment words helper arguments ≡ step.called segment state helper arguments
   called_alike arguments can =
-      let bytes = bytes_read_held state.frame.bytes words.frame (frame_use (signature helper).shape) arguments holds.frame
+      let bytes = bytes_read_held state.frame.bytes words.frame (frame_use (signature helper).group) arguments holds.frame
       (holds.whole ∙ sym whole.frame) can.written in
       ap (λ (read : List ℕ). call helper segment arguments read words.score) bytes
       ∙ ap (λ (score : ℕ). call helper segment arguments
-      (written_bytes (bytes_read (frame_use (signature helper).shape) arguments state.frame.bytes)) score) holds.score
+      (written_bytes (bytes_read (frame_use (signature helper).group) arguments state.frame.bytes)) score) holds.score
 
   after_held : (arguments : List ℕ) → effect.CanBeCalled state helper arguments
       → HoldsChange segment state (CallHelper helper arguments)
       (words_after words (second arguments) (step.called segment state helper arguments))
   after_held arguments can =
-      let read = written_bytes (bytes_read (frame_use (signature helper).shape) arguments state.frame.bytes) in
+      let read = written_bytes (bytes_read (frame_use (signature helper).group) arguments state.frame.bytes) in
       let done = step.called segment state helper arguments in
       let frame =
       bytes_written state.frame words.frame (record { whole = holds.whole; represent = holds.frame; slots = holds.slots }) done.written
-      (frame_use (signature helper).shape) arguments whole.frame whole.slots can.meets.within
+      (frame_use (signature helper).group) arguments whole.frame whole.slots can.meets.within
       (written-length helper segment arguments read state.score is can.meets) in
       let registers = whole.registers in
       let count = holds.count in
@@ -222,9 +222,9 @@ module _ (segment : SegmentParts) (state : State) (words : Words) (is : IsSegmen
 
   pub call_held : Sound (HoldsChange segment state) (effect.call_helper state helper) (Ok (call_helper segment words helper))
   call_held =
-      made_held (effect.arguments_in state (signature helper).arguments >>= effect.lend_frame state (frame_use (signature helper).shape))
+      made_held (effect.arguments_in state (signature helper).arguments >>= effect.lend_frame state (frame_use (signature helper).group))
       (then_keeps _ _ (effect.arguments_in state (signature helper).arguments) _
-      (arguments_held state words holds (signature helper).arguments) (lend_frame_held state (frame_use (signature helper).shape) _))
+      (arguments_held state words holds (signature helper).arguments) (lend_frame_held state (frame_use (signature helper).group) _))
       (called_can_be_made state (Some helper))
 
   made_meets : (result : Result (List ℕ) Cause) → IfPasses (λ arguments. arguments ≡ argument_words words (signature helper).arguments)
@@ -237,7 +237,7 @@ module _ (segment : SegmentParts) (state : State) (words : Words) (is : IsSegmen
   pub call_meets : IfPasses (λ change. MeetsSignature helper (argument_words words (signature helper).arguments))
       (effect.call_helper state helper)
   call_meets =
-      made_meets (effect.arguments_in state (signature helper).arguments >>= effect.lend_frame state (frame_use (signature helper).shape))
+      made_meets (effect.arguments_in state (signature helper).arguments >>= effect.lend_frame state (frame_use (signature helper).group))
       (then_keeps _ _ (effect.arguments_in state (signature helper).arguments) _
-      (arguments_held state words holds (signature helper).arguments) (lend_frame_held state (frame_use (signature helper).shape) _))
+      (arguments_held state words holds (signature helper).arguments) (lend_frame_held state (frame_use (signature helper).group) _))
       (called_can_be_made state (Some helper))

@@ -20,7 +20,7 @@ use Rattle.bpf_insn.specs.declared.value.Value.{Value}
 use Rattle.bpf_insn.specs.declared.value.Value.TheVariants.{Empty, Number, Pointer}
 use Rattle.bpf_helpers.specs.Call.{Called, MeetsSignature, bytes_read, call, second, write}
 use Rattle.bpf_helpers.specs.Helper.{by_number, signature}
-use Rattle.bpf_helpers.specs.Shape.{frame_use}
+use Rattle.bpf_helpers.specs.Group.{frame_use}
 use Rattle.bpf_helpers.specs.declared.helper.Helper.{Helper}
 use Rattle.bpf_helpers.specs.declared.signature.Argument.{Argument}
 use Rattle.bpf_helpers.specs.declared.signature.Argument.TheVariants as argument
@@ -133,7 +133,7 @@ argument_words words required =
 
 -- what a call with these arguments does on the segment, with the bytes that it reads of the frame
 abbrev pub called : SegmentParts → Words → Helper → List ℕ → Called
-called segment words helper arguments = call helper segment arguments (bytes_read (frame_use (signature helper).shape) arguments words.frame) words.score
+called segment words helper arguments = call helper segment arguments (bytes_read (frame_use (signature helper).group) arguments words.frame) words.score
 
 -- The words after a call whose bytes are written from an offset on. Only register 0 is set: the other registers that a call empties may hold
 -- anything.

@@ -13,19 +13,19 @@ use Rattle.bpf_insn.specs.declared.memory.TheConstants.{FRAME_LENGTH, SLOTS}
 use Rattle.bpf_kinds.specs.Interval.{Admits}
 use Rattle.bpf_kinds.specs.declared.interval.Interval.{Interval}
 use Rattle.tl_segments.specs.Segment.{SegmentParts, IsSegment}
-use Rattle.bpf_helpers.specs.Call.{Meaning, Meets, LieWithin, bytes_read, call, does, meaning, second, shape_of, third, write}
+use Rattle.bpf_helpers.specs.Call.{Meaning, Meets, LieWithin, bytes_read, call, does, meaning, second, group_of, third, write}
 use Rattle.bpf_helpers.specs.Call.Meaning.{CopiesIntoFrame}
 use Rattle.bpf_helpers.specs.Meaning.{first_bytes}
 use Rattle.bpf_helpers.specs.Helper.{signature}
-use Rattle.bpf_helpers.specs.Shape.{frame_use}
-use Rattle.bpf_helpers.proofs.CallLemmas.{shape-is, three-required, written-bytes}
+use Rattle.bpf_helpers.specs.Group.{frame_use}
+use Rattle.bpf_helpers.proofs.CallLemmas.{group-is, three-required, written-bytes}
 use Rattle.bpf_helpers.proofs.WriteLemmas.{length-write, write-nothing}
 use Rattle.bpf_helpers.specs.declared.helper.Helper.{Helper}
 use Rattle.bpf_helpers.specs.declared.signature.Argument.{Argument}
 use Rattle.bpf_helpers.specs.declared.signature.Argument.TheVariants as argument
 use Rattle.bpf_helpers.specs.declared.signature.FrameUse.{FrameUse}
 use Rattle.bpf_helpers.specs.declared.signature.FrameUse.TheVariants as frame_use
-use Rattle.bpf_helpers.specs.declared.signature.Shape.{Shape}
+use Rattle.bpf_helpers.specs.declared.signature.Group.{Group}
 use Rattle.bpf_insn.specs.Frame.{FrameByte, FrameContents, Byte}
 use Rattle.bpf_meaning.specs.Memory.{all_written, write_bytes, written_bytes}
 use Rattle.bpf_meaning.specs.Effect.{read, argument_in, argument_word, arguments_in, is_allowed, lend_bytes, lend_frame, lend_written}
@@ -164,16 +164,16 @@ prototype_matches state helper =
     (arguments_match state (required helper 0) (required helper 1) (required helper 2))
 
 can_be_called : (state : State) (helper : Helper) (arguments : List ℕ)
-    → IsLent state (signature helper).arguments (frame_use (signature helper).shape) arguments → CanBeCalled state helper arguments
+    → IsLent state (signature helper).arguments (frame_use (signature helper).group) arguments → CanBeCalled state helper arguments
 can_be_called state helper arguments lent = record
     { meets = record { count = lent.matches.count; each = lent.matches.each; within = lent.within }; written = lent.written }
 
 call_can_be_made : (state : State) (helper : Helper) → IfPasses (CanBeMade state) (call_helper state helper)
 call_can_be_made state helper =
-    then_keeps (IsLent state (signature helper).arguments (frame_use (signature helper).shape)) (CanBeMade state)
-    (arguments_in state (signature helper).arguments >>= lend_frame state (frame_use (signature helper).shape)) _
+    then_keeps (IsLent state (signature helper).arguments (frame_use (signature helper).group)) (CanBeMade state)
+    (arguments_in state (signature helper).arguments >>= lend_frame state (frame_use (signature helper).group)) _
     (then_keeps (MatchPrototype (signature helper).arguments) _ (arguments_in state (signature helper).arguments) _ (prototype_matches state helper)
-    (frame_lent state (signature helper).arguments (frame_use (signature helper).shape)))
+    (frame_lent state (signature helper).arguments (frame_use (signature helper).group)))
     (can_be_called state helper)
 
 pub called_can_be_made : (state : State) (found : Option Helper) → IfPasses (CanBeMade state) (call_change state found)
@@ -186,7 +186,7 @@ short_bytes : (count : ℕ) (name : Option (List ℕ)) → length (first_bytes c
 short_bytes count None = let long : length (first_bytes count None) ≡ count = length-replicate count 32 in omega arith
 short_bytes count (Some name) = omega (arith, length-take count name)
 
-does_inside : (m : Meaning) (segment : SegmentParts) (arguments bytes : List ℕ) (score : ℕ) → LieWithin (frame_use (shape_of m)) arguments
+does_inside : (m : Meaning) (segment : SegmentParts) (arguments bytes : List ℕ) (score : ℕ) → LieWithin (frame_use (group_of m)) arguments
     → ((does m segment arguments bytes score).written ≡ [])
     ⊎ (second arguments + length (does m segment arguments bytes score).written ≤ FRAME_LENGTH)
 does_inside (CopiesIntoFrame copied) segment arguments bytes score within =
@@ -194,11 +194,11 @@ does_inside (CopiesIntoFrame copied) segment arguments bytes score within =
 does_inside otherwise segment arguments bytes score within = inl refl
 
 written_inside : (segment : SegmentParts) (helper : Helper) (arguments bytes : List ℕ) (score : ℕ)
-    → LieWithin (frame_use (signature helper).shape) arguments → ((call helper segment arguments bytes score).written ≡ [])
+    → LieWithin (frame_use (signature helper).group) arguments → ((call helper segment arguments bytes score).written ≡ [])
     ⊎ (second arguments + length (call helper segment arguments bytes score).written ≤ FRAME_LENGTH)
 written_inside segment helper arguments bytes score within =
     does_inside (meaning helper) segment arguments bytes score
-    (subst (λ (s : Shape). LieWithin (frame_use s) arguments) (sym (shape-is helper)) within)
+    (subst (λ (s : Group). LieWithin (frame_use s) arguments) (sym (group-is helper)) within)
 
 -- the frame after a call
 abbrev pub frame_after : SegmentParts → State → Helper → List ℕ → List FrameByte
@@ -212,7 +212,7 @@ after_call : (P : FrameContents → Type 0) (segment : SegmentParts) (state : St
     → P (state_after state (second arguments) (called segment state helper arguments)).frame
 after_call P segment state helper arguments can before within =
     elim (written_inside segment helper arguments (written_bytes
-    (bytes_read (frame_use (signature helper).shape) arguments state.frame.bytes)) state.score can.meets.within) [
+    (bytes_read (frame_use (signature helper).group) arguments state.frame.bytes)) state.score can.meets.within) [
       | inl none ↦
           subst (λ (bytes : List ℕ). P (write_bytes state.frame (second arguments) bytes)) (sym none)
           (subst (λ (bytes : List FrameByte). P (record { bytes = bytes; slots = state.frame.slots }))
@@ -245,7 +245,7 @@ apart-frame_after segment state helper arguments can whole long apart =
 pub bytes-frame_after : (segment : SegmentParts) (state : State) (helper : Helper) (arguments : List ℕ) → IsSegment segment
     → CanBeCalled state helper arguments → HoldBytes state.frame.bytes → HoldBytes (frame_after segment state helper arguments)
 bytes-frame_after segment state helper arguments is can all =
-    let read = bytes_read (frame_use (signature helper).shape) arguments state.frame.bytes in
+    let read = bytes_read (frame_use (signature helper).group) arguments state.frame.bytes in
     bytes-write state.frame.bytes (second arguments) (map Byte (called segment state helper arguments).written) all
     (bytes-map (called segment state helper arguments).written
     (written-bytes helper segment arguments (written_bytes read) state.score is can.meets).bytes)

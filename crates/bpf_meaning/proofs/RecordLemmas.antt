@@ -9,7 +9,7 @@ use Rattle.tl_segments.specs.Segment.{SegmentParts}
 use Rattle.bpf_helpers.specs.Call.{bytes_read, second}
 use Rattle.bpf_helpers.specs.Helper as helper
 use Rattle.bpf_helpers.specs.Helper.{by_number, signature}
-use Rattle.bpf_helpers.specs.Shape.{frame_use}
+use Rattle.bpf_helpers.specs.Group.{frame_use}
 use Rattle.bpf_helpers.specs.declared.helper.Helper.{Helper}
 use Rattle.bpf_helpers.proofs.RecordLemmas.{calls_alike}
 use Rattle.bpf_meaning.specs.Memory.{written_bytes}
@@ -55,7 +55,7 @@ call_of_record : (state : State) (found : Option Helper) → IsTrue (call_reads_
     → IfPasses IsOfRecord (call_change state found)
 call_of_record state None alone = tt
 call_of_record state (Some called) alone =
-    then_passes IsOfRecord (arguments_in state (signature called).arguments >>= lend_frame state (frame_use (signature called).shape))
+    then_passes IsOfRecord (arguments_in state (signature called).arguments >>= lend_frame state (frame_use (signature called).group))
     (λ arguments. Ok (CallHelper called arguments)) (λ arguments. alone)
 
 changes_of_record : (state : State) (insn : Insn) → IsTrue (instruction_reads_record_alone insn) → ChangesSatisfy state insn IsOfRecord
@@ -82,7 +82,7 @@ changes_alike : (segment other : SegmentParts) (state : State) (change : Change)
 changes_alike segment other state (CallHelper called arguments) is same =
     ap (state_after state (second arguments))
     (calls_alike called segment other arguments (written_bytes
-    (bytes_read (frame_use (signature called).shape) arguments state.frame.bytes)) state.score is same)
+    (bytes_read (frame_use (signature called).group) arguments state.frame.bytes)) state.score is same)
 changes_alike segment other state change is same = refl
 
 applied_alike : (segment other : SegmentParts) (state : State) (result : Result Effect Cause) → IfPasses (ContinuesWith IsOfRecord) result

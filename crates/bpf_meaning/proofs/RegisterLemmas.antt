@@ -10,7 +10,7 @@ use Rattle.bpf_insn.specs.declared.value.Value.{Value}
 use Rattle.bpf_insn.specs.declared.value.Value.TheVariants.{Empty}
 use Rattle.tl_segments.specs.Segment.{SegmentParts}
 use Rattle.bpf_helpers.specs.Helper.{by_number, signature}
-use Rattle.bpf_helpers.specs.Shape.{frame_use}
+use Rattle.bpf_helpers.specs.Group.{frame_use}
 use Rattle.bpf_helpers.specs.declared.helper.Helper.{Helper}
 use Rattle.bpf_meaning.specs.State.{register_value}
 use Rattle.bpf_meaning.specs.Effect.{arguments_in, call_change, effect, effect_of, lend_frame, ◌>>=◌}
@@ -51,7 +51,7 @@ IsCall change = ⊥
 change_is_call : (state : State) (found : Option Helper) → IfPasses IsCall (call_change state found)
 change_is_call state None = tt
 change_is_call state (Some helper) =
-    then_passes IsCall (arguments_in state (signature helper).arguments >>= lend_frame state (frame_use (signature helper).shape))
+    then_passes IsCall (arguments_in state (signature helper).arguments >>= lend_frame state (frame_use (signature helper).group))
     (λ arguments. Ok (CallHelper helper arguments)) (λ arguments. tt)
 
 applies_call : (segment : SegmentParts) (state : State) (result : Result Effect Cause) → IfPasses (ContinuesWith IsCall) result

@@ -21,7 +21,7 @@ use Rattle.tl_segments.specs.Segment.{SegmentParts}
 use Rattle.bpf_kinds.specs.declared.interval.Interval.{Interval}
 use Rattle.bpf_helpers.specs.Call.{MeetsSignature, bytes_read, second, third}
 use Rattle.bpf_helpers.specs.Helper.{signature}
-use Rattle.bpf_helpers.specs.Shape.{frame_use}
+use Rattle.bpf_helpers.specs.Group.{frame_use}
 use Rattle.bpf_helpers.specs.declared.helper.Helper.{Helper}
 use Rattle.bpf_helpers.specs.declared.signature.Argument.{Argument}
 use Rattle.bpf_helpers.specs.declared.signature.Argument.TheVariants as argument
@@ -247,7 +247,7 @@ lend_frame state Reads arguments = lend_bytes arguments >>= lend_written state
 -- the call of a helper function whose arguments meet its prototype
 abbrev pub call_helper : State → Helper → Result Change Cause
 call_helper state helper =
-    arguments_in state (signature helper).arguments >>= lend_frame state (frame_use (signature helper).shape) >>= λ arguments. Ok (CallHelper helper arguments)
+    arguments_in state (signature helper).arguments >>= lend_frame state (frame_use (signature helper).group) >>= λ arguments. Ok (CallHelper helper arguments)
 
 -- a call by a number (section 4.3.1)
 abbrev pub call_change : State → Option Helper → Result Change Cause
@@ -308,7 +308,7 @@ effect code segment state = effect_of code segment state (instruction_at code st
 -- a call can be made: its arguments meet its prototype, and what it reads of the frame is written
 pub record CanBeCalled (state : State) (helper : Helper) (arguments : List ℕ) : Type 0 where
   pub meets : MeetsSignature helper arguments
-  pub written : IsTrue (all_written (bytes_read (frame_use (signature helper).shape) arguments state.frame.bytes))
+  pub written : IsTrue (all_written (bytes_read (frame_use (signature helper).group) arguments state.frame.bytes))
 
 -- a change can be made: stored bytes lie within the frame, so does the slot of a pointer, and a call can be made
 abbrev pub CanBeMade : State → Change → Type 0

@@ -7,7 +7,7 @@ use Rattle.bpf_insn.specs.declared.value.Value.{Value}
 use Rattle.bpf_insn.specs.declared.value.Value.TheVariants.{Empty, Number}
 use Rattle.bpf_helpers.specs.Call.{Called, bytes_read, call, second}
 use Rattle.bpf_helpers.specs.Helper.{signature}
-use Rattle.bpf_helpers.specs.Shape.{frame_use}
+use Rattle.bpf_helpers.specs.Group.{frame_use}
 use Rattle.bpf_helpers.specs.declared.helper.Helper.{Helper}
 use Rattle.bpf_meaning.specs.Memory.{set_slot_pointer, store_number, write_bytes, written_bytes}
 use Rattle.bpf_meaning.specs.Effect.{effect}
@@ -42,7 +42,7 @@ state_after state at called = record state {
 -- what a call does on the segment, given what it reads of the frame
 abbrev pub called : SegmentParts → State → Helper → List ℕ → Called
 called segment state helper arguments =
-    call helper segment arguments (written_bytes (bytes_read (frame_use (signature helper).shape) arguments state.frame.bytes)) state.score
+    call helper segment arguments (written_bytes (bytes_read (frame_use (signature helper).group) arguments state.frame.bytes)) state.score
 
 -- the state after a change
 abbrev pub carry_out : SegmentParts → State → Change → State

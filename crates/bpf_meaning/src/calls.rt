@@ -28,7 +28,7 @@ fn call_helper(state: &State, helper: Helper) -> Result<Change, Cause>
     let signature = helper.signature();
     // Before the frame, so a number out of its bounds is 50 BadArgument and never 44 OutOfBounds.
     let arguments = arguments_in(state, signature.arguments)?;
-    let arguments = lend_frame(state, signature.shape.frame_use(), arguments)?;
+    let arguments = lend_frame(state, signature.group.frame_use(), arguments)?;
     Ok(Change::CallHelper { helper, arguments })
 }
 

@@ -2,7 +2,7 @@
 ghost use Rattle.std.specs.Prelude.{◌≡◌, ◌+◌, ◌≤◌, ◌<◌, IsTrue, length, map, take, drop, replicate, None};
 ghost use Rattle.bpf_helpers.specs.Call.{MeetsSignature, bytes_read, call, second};
 ghost use Rattle.bpf_helpers.specs.Helper.{signature};
-ghost use Rattle.bpf_helpers.specs.Shape.{frame_use};
+ghost use Rattle.bpf_helpers.specs.Group.{frame_use};
 ghost use Rattle.bpf_insn.specs.Frame.{Unwritten, number_of, overwrite_slots, slot_value};
 ghost use Rattle.bpf_meaning.specs.Memory.{all_written, set_slot_pointer, store_number, write_bytes, written_bytes};
 
@@ -130,17 +130,17 @@ impl Frame {
         score: &mut u64,
     ) -> u64
         requires meets { MeetsSignature helper arguments }
-        requires written { IsTrue (all_written (bytes_read (frame_use (signature helper).shape) arguments self.old.bytes)) }
+        requires written { IsTrue (all_written (bytes_read (frame_use (signature helper).group) arguments self.old.bytes)) }
         ensures answer { result ≡ (call helper segment.now arguments
-            (written_bytes (bytes_read (frame_use (signature helper).shape) arguments self.old.bytes)) score.old).answer }
+            (written_bytes (bytes_read (frame_use (signature helper).group) arguments self.old.bytes)) score.old).answer }
         ensures frame { self.new ≡ write_bytes self.old (second arguments) (call helper segment.now arguments
-            (written_bytes (bytes_read (frame_use (signature helper).shape) arguments self.old.bytes)) score.old).written }
+            (written_bytes (bytes_read (frame_use (signature helper).group) arguments self.old.bytes)) score.old).written }
         ensures score { score.new ≡ (call helper segment.now arguments
-            (written_bytes (bytes_read (frame_use (signature helper).shape) arguments self.old.bytes)) score.old).score }
+            (written_bytes (bytes_read (frame_use (signature helper).group) arguments self.old.bytes)) score.old).score }
     {
         // Without its marks, since the machine's frame has none.
         let answer = call(helper, arguments, segment, &mut self.bytes, score);
-        if let FrameUse::Writes = helper.signature().shape.frame_use() {
+        if let FrameUse::Writes = helper.signature().group.frame_use() {
             // For the proof only: `bytes` states that the segment's names have their full length, which determines the count of written bytes.
             let _bytes = segment.bytes();
             let [_, at, count] = arguments;

@@ -2,7 +2,7 @@
 use Rattle.std.proofs.Common.{ℕ, ℤ, pos, Bool, true, false, if◌then◌else◌, List, get_or, Option, Some, None, Result, Ok, Err, subst}
 use Rattle.std.specs.Int.{w32, cast_unsigned}
 use Rattle.bpf_helpers.specs.Helper.{by_number, signature}
-use Rattle.bpf_helpers.specs.Shape.{frame_use}
+use Rattle.bpf_helpers.specs.Group.{frame_use}
 use Rattle.bpf_helpers.specs.declared.helper.Helper.{Helper}
 use Rattle.bpf_helpers.specs.declared.signature.Argument.{Argument}
 use Rattle.bpf_helpers.specs.declared.signature.Argument.TheVariants as argument
@@ -40,7 +40,7 @@ use Rattle.bpf_verify.specs.Transfer.{kind_or, kind_registers, kind_tags, kinds,
 use Rattle.bpf_verify.specs.Transfer.{load_from, number_or, only_pointers, or_cause, pointers_in, read, read_kind, slot_kind_or_nothing, storable}
 use Rattle.bpf_verify.specs.Transfer.{store_at, transfer}
 use Rattle.bpf_verify.specs.declared.abstract_state.AbstractState.{AbstractState}
-use Rattle.bpf_verify.specs.declared.comparison.Comparison.{Comparison}
+use Rattle.bpf_verify.specs.declared.comparison.JumpCondition.{JumpCondition}
 use Rattle.bpf_verify.specs.declared.memory.Pointers.{Pointers}
 
 -- a check of an instruction can fail with this cause
@@ -137,7 +137,7 @@ module _ (known : AbstractState) where
       both (read known destination) _ (read_is destination (kind_of known destination)) (λ x.
       both (operand (kind_registers known) source) _ (operand_is source) (λ y. tagged_is operation width (tagged_kind x) (tagged_kind y)))
 
-  compare_is : (comparison : Comparison) (x y : Kind) → FailsByCheck (compare known comparison x y)
+  compare_is : (comparison : JumpCondition) (x y : Kind) → FailsByCheck (compare known comparison x y)
   compare_is comparison (Number x) (Number y) = tt
   compare_is comparison x y = tt
 
@@ -242,7 +242,7 @@ module _ (known : AbstractState) where
   call_is None = tt
   call_is (Some helper) =
       let required = (signature helper).arguments in
-      let lent = frame_use (signature helper).shape in
+      let lent = frame_use (signature helper).group in
       both (arguments_in known required >>= lend_frame known lent) _
       (both (arguments_in known required) (lend_frame known lent) (arguments_are required) (lend_frame_is lent)) (λ after. tt)
 

@@ -10,7 +10,7 @@ use Rattle.bpf_kinds.specs.declared.kind.Kind.{Kind}
 use Rattle.bpf_kinds.specs.declared.kind.Kind.TheVariants.{Number, Frame, Nothing}
 use Rattle.bpf_kinds.specs.declared.offsets.Offsets.{Offsets}
 use Rattle.bpf_helpers.specs.Helper.{signature}
-use Rattle.bpf_helpers.specs.Shape.{frame_use}
+use Rattle.bpf_helpers.specs.Group.{frame_use}
 use Rattle.bpf_helpers.specs.declared.helper.Helper.{Helper}
 use Rattle.bpf_helpers.specs.declared.signature.Argument.{Argument}
 use Rattle.bpf_helpers.specs.declared.signature.Argument.TheVariants as argument
@@ -150,7 +150,7 @@ call_lower higher lower below helper =
     let answer = (signature helper).answer in
     then_sound ChangesBelow ChangesBelow _ _ _ _
     (then_sound AreArgumentsLower ChangesBelow _ _ _ _ (arguments_lower higher lower below (signature helper).arguments)
-    (lend_frame_lower higher lower below (frame_use (signature helper).shape)))
+    (lend_frame_lower higher lower below (frame_use (signature helper).group)))
     (λ after updated within. record {
       registers = registers_lower after.registers updated.registers answer within.registers;
       frame =

@@ -13,7 +13,7 @@ use Rattle.bpf_kinds.proofs.NarrowingMonotone.{refine_is_monotone}
 use Rattle.bpf_meaning.specs.Checks.{Sound}
 use Rattle.bpf_verify.specs.LiftedState.{IsBelow, Edges, AreEdgesWithin, IsWithin, IsWithinState, with_kind}
 use Rattle.bpf_verify.specs.Transfer.{is_register, with_narrowed, narrowed, branch, on_edge, compare}
-use Rattle.bpf_verify.specs.declared.comparison.Comparison.{Comparison}
+use Rattle.bpf_verify.specs.declared.comparison.JumpCondition.{JumpCondition}
 use Rattle.bpf_verify.specs.declared.abstract_state.AbstractState.{AbstractState}
 use Rattle.bpf_verify.specs.declared.comparison.Edge.TheVariants.{Unchanged}
 use Rattle.bpf_kinds.proofs.LowerLemmas.{IsLowerInterval}
@@ -39,7 +39,7 @@ module _ {higher lower : AbstractState} (below : IsBelow lower higher) where
       (length-set lower.registers left (Number both.left) ∙ same_registers ∙ sym (length-set higher.registers left (Number wider.left)))
       (with_kind_lower higher lower left (Number wider.left) (Number both.left) same_registers below.within first) second
 
-  branch_lower : (comparison : Comparison) {x y m n : Interval} → IsLowerInterval x m → IsLowerInterval y n → (taken : Bool)
+  branch_lower : (comparison : JumpCondition) {x y m n : Interval} → IsLowerInterval x m → IsLowerInterval y n → (taken : Bool)
       → IsWithin (on_edge lower comparison (branch comparison m n taken)) (on_edge higher comparison (branch comparison x y taken))
   branch_lower comparison {x} {y} {m} {n} first second taken = by_test (is_register comparison.left.number comparison.right)
     where
@@ -59,7 +59,7 @@ module _ {higher lower : AbstractState} (below : IsBelow lower higher) where
       by_test true = below.within
       by_test false = by_refined (refine comparison.condition comparison.width m n taken) refl
 
-  pub compare_lower : (comparison : Comparison) (x y m n : Kind) → IsLower x m → IsLower y n
+  pub compare_lower : (comparison : JumpCondition) (x y m n : Kind) → IsLower x m → IsLower y n
       → Sound EdgesBelow (compare higher comparison x y) (compare lower comparison m n)
   compare_lower comparison x y m n first second =
       lower_cases (λ x m. Sound EdgesBelow (compare higher comparison x y) (compare lower comparison m n))

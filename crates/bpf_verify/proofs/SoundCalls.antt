@@ -21,7 +21,7 @@ use Rattle.bpf_kinds.specs.declared.kind.Kind.TheVariants.{Number, Record, Frame
 use Rattle.bpf_kinds.specs.declared.offsets.Offsets.{Offsets}
 use Rattle.bpf_helpers.specs.Call.{MeetsSignature, bytes_read, second, third, written_length}
 use Rattle.bpf_helpers.specs.Helper.{signature}
-use Rattle.bpf_helpers.specs.Shape.{frame_use}
+use Rattle.bpf_helpers.specs.Group.{frame_use}
 use Rattle.bpf_helpers.specs.declared.helper.Helper.{Helper}
 use Rattle.bpf_helpers.specs.declared.signature.Argument.{Argument}
 use Rattle.bpf_helpers.specs.declared.signature.Argument.TheVariants as argument
@@ -251,11 +251,11 @@ registers_admit kinds values x n admits all (suc (suc (suc (suc (suc (suc regist
 registers_admit kinds values x n admits all register = tt
 
 call_admits : (segment : SegmentParts) (state : State) (helper : Helper) (after : AbstractState) (words : List ℕ) → IsSegment segment
-    → MeetsSignature helper words → IsLent state (frame_use (signature helper).shape) after words
+    → MeetsSignature helper words → IsLent state (frame_use (signature helper).group) after words
     → Stores segment state (state_after (signature helper).answer after) (CallHelper helper words)
 call_admits segment state helper after words is_segment meets lent =
     let called = step.called segment state helper words in
-    let bytes = written_bytes (bytes_read (frame_use (signature helper).shape) words state.frame.bytes) in
+    let bytes = written_bytes (bytes_read (frame_use (signature helper).group) words state.frame.bytes) in
     let admits = lent.admits called.written (written-length helper segment words bytes state.score is_segment meets) in
     record {
       registers = registers_admit after.registers state.registers (signature helper).answer called.answer
@@ -265,7 +265,7 @@ call_admits segment state helper after words is_segment meets lent =
 
 made_sound : (segment : SegmentParts) (state : State) (helper : Helper) → IsSegment segment
     → (abstract : Result AbstractState Cause) (concrete : Result (List ℕ) Cause)
-    → Sound (IsLent state (frame_use (signature helper).shape)) abstract concrete
+    → Sound (IsLent state (frame_use (signature helper).group)) abstract concrete
     → IfPasses (effect.CanBeMade state) (concrete >>= λ words. Ok (CallHelper helper words))
     → Sound (Stores segment state) (abstract >>= λ after. Ok (state_after (signature helper).answer after))
     (concrete >>= λ words. Ok (CallHelper helper words))
@@ -278,6 +278,6 @@ pub call_sound : (segment : SegmentParts) (known : AbstractState) (state : State
 call_sound segment known state is has None = tt
 call_sound segment known state is has (Some helper) =
     made_sound segment state helper is _ _
-    (then_sound AreWords (IsLent state (frame_use (signature helper).shape)) _ _ _ _
-    (arguments_sound known state has (signature helper).arguments) (lend_frame_sound known state has (frame_use (signature helper).shape)))
+    (then_sound AreWords (IsLent state (frame_use (signature helper).group)) _ _ _ _
+    (arguments_sound known state has (signature helper).arguments) (lend_frame_sound known state has (frame_use (signature helper).group)))
     (called_can_be_made state (Some helper))

@@ -24,7 +24,7 @@ use Rattle.bpf_meaning.specs.declared.state.State.{State}
 use Rattle.bpf_verify.specs.Transfer.{is_register, with_narrowed, narrowed, on_edge, edges_to, branch, compare}
 use Rattle.bpf_verify.specs.LiftedState as lifted
 use Rattle.bpf_verify.specs.declared.abstract_state.AbstractState.{AbstractState}
-use Rattle.bpf_verify.specs.declared.comparison.Comparison.{Comparison}
+use Rattle.bpf_verify.specs.declared.comparison.JumpCondition.{JumpCondition}
 use Rattle.bpf_verify.specs.LiftedState.{Edges}
 use Rattle.bpf_verify.specs.declared.comparison.Edge.TheVariants.{Unchanged}
 use Rattle.bpf_verify.specs.declared.successors.Successors.TheVariants.{Branch}
@@ -51,7 +51,7 @@ record Operands (state : State) (left : ℕ) (right : Source) (x y : Interval) (
   on_right : RightHolds state right n
 
 -- both edges, if the operands are numbers
-abbrev edges_of : AbstractState → Comparison → Interval → Interval → Edges
+abbrev edges_of : AbstractState → JumpCondition → Interval → Interval → Edges
 edges_of known comparison x y = edges_to known (Branch comparison (branch comparison x y false) (branch comparison x y true))
 
 -- an admitted state
@@ -67,7 +67,7 @@ module _ {known : AbstractState} {state : State} (has : HasState known state) wh
       register.number (Number both.right) (subst (kind.Admits (Number both.right)) (sym other) second)
 
   -- an edge of a conditional jump
-  branch_admits : (comparison : Comparison) {x y : Interval} {m n : ℕ} {taken : Bool}
+  branch_admits : (comparison : JumpCondition) {x y : Interval} {m n : ℕ} {taken : Bool}
       → Operands state comparison.left.number comparison.right x y m n → condition_holds comparison.condition comparison.width m n ≡ taken
       → lifted.Admits (on_edge known comparison (branch comparison x y taken)) state
   branch_admits comparison {x} {y} {taken} operands answer = by_test (is_register left right)
@@ -87,7 +87,7 @@ module _ {known : AbstractState} {state : State} (has : HasState known state) wh
           subst (λ (refined : Option Narrowed). lifted.Admits (on_edge known comparison (narrowed refined)) state) (sym admitted.1)
           (with_narrowed_admits left right admitted.0 operands.on_left operands.on_right admitted.2 admitted.3)
 
-  edges_take : (comparison : Comparison) {x y : Interval} {m n : ℕ}
+  edges_take : (comparison : JumpCondition) {x y : Interval} {m n : ℕ}
       → Operands state comparison.left.number comparison.right x y m n
       → TakesEdge state (edges_of known comparison x y) (condition_holds comparison.condition comparison.width m n)
   edges_take comparison {x} {y} {m} {n} operands = by_answer (condition_holds comparison.condition comparison.width m n) refl
@@ -111,7 +111,7 @@ condition_holds_low : (condition : Condition) (width : Width) (m n : ℕ) → co
 condition_holds_low condition width m n = ap (λ (k : ℕ). arithmetic.condition_holds_on condition (operand_bits width) (low_bits (operand_bits width) m) k)
     (low_twice width n)
 
-abbrev pub with_source : Condition → Width → RegisterParts → Source → Comparison
+abbrev pub with_source : Condition → Width → RegisterParts → Source → JumpCondition
 with_source condition width left right = record { condition = condition; width = width; left = left; right = right }
 
 -- a register's value is compared

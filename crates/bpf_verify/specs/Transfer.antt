@@ -27,7 +27,7 @@ use Rattle.bpf_kinds.specs.declared.offsets.Offsets.{Offsets}
 use Rattle.bpf_frame.specs.FrameMap.{all_written, mark, set_slot, slot_kind, touch}
 use Rattle.bpf_insn.specs.Frame.{slot_at}
 use Rattle.bpf_helpers.specs.Helper.{signature}
-use Rattle.bpf_helpers.specs.Shape.{frame_use}
+use Rattle.bpf_helpers.specs.Group.{frame_use}
 use Rattle.bpf_helpers.specs.declared.helper.Helper.{Helper}
 use Rattle.bpf_helpers.specs.declared.signature.Argument.{Argument}
 use Rattle.bpf_helpers.specs.declared.signature.Argument.TheVariants as argument
@@ -45,7 +45,7 @@ use Rattle.tl_records.specs.declared.layout.TheConstants.{RECORD_LENGTH}
 use Rattle.bpf_verify.specs.LiftedState.{LiftedState, Unreached, Reached, Edges, kind_of, with_kind}
 use Rattle.bpf_verify.specs.declared.abstract_state.AbstractState.{AbstractState}
 use Rattle.bpf_verify.specs.declared.calls.LentBytes.{LentBytes}
-use Rattle.bpf_verify.specs.declared.comparison.Comparison.{Comparison}
+use Rattle.bpf_verify.specs.declared.comparison.JumpCondition.{JumpCondition}
 use Rattle.bpf_verify.specs.declared.comparison.Edge.{Edge}
 use Rattle.bpf_verify.specs.declared.comparison.Edge.TheVariants as edge
 use Rattle.bpf_verify.specs.declared.comparison.Edge.TheVariants.{Unchanged, Narrows}
@@ -119,14 +119,14 @@ abbrev pub narrowed : Option Narrowed → Edge
 narrowed None = edge.Unreached
 narrowed (Some both) = Narrows both
 
-abbrev pub branch : Comparison → Interval → Interval → Bool → Edge
+abbrev pub branch : JumpCondition → Interval → Interval → Bool → Edge
 branch comparison x y taken =
     if is_register comparison.left.number comparison.right
     then Unchanged
     else narrowed (refine comparison.condition comparison.width x y taken)
 
 -- the state on an edge, from the state before the jump and what the jump adds
-abbrev pub on_edge : AbstractState → Comparison → Edge → LiftedState
+abbrev pub on_edge : AbstractState → JumpCondition → Edge → LiftedState
 on_edge known comparison edge.Unreached = Unreached
 on_edge known comparison Unchanged = Reached known
 on_edge known comparison (Narrows both) = Reached (with_narrowed known comparison.left.number comparison.right both)
@@ -139,7 +139,7 @@ edges_to known Target = record { next = Unreached; target = Reached known }
 edges_to known (Branch comparison next target) = record { next = on_edge known comparison next; target = on_edge known comparison target }
 
 -- both edges of a conditional jump: it must compare numbers, which is checked after both operands are read
-abbrev pub compare : AbstractState → Comparison → Kind → Kind → Result Edges Cause
+abbrev pub compare : AbstractState → JumpCondition → Kind → Kind → Result Edges Cause
 compare known comparison (Number x) (Number y) =
     Ok (edges_to known (Branch comparison (branch comparison x y false) (branch comparison x y true)))
 compare known comparison x y = Err ComparesPointer
@@ -178,7 +178,7 @@ kind_registers known = record {
   operate = tags.operate kind_tags;
 }
 
-abbrev pub branches : AbstractState → Comparison → Result Edges Cause
+abbrev pub branches : AbstractState → JumpCondition → Result Edges Cause
 branches known comparison =
     read known comparison.left.number >>= λ x. compared_operand (kind_registers known) comparison.width comparison.right >>= λ y. compare known comparison x y
 
@@ -340,7 +340,7 @@ state_after answer known = record known { registers = Number answer ∷ replicat
 abbrev pub call : AbstractState → Option Helper → Result AbstractState Cause
 call known None = Err UnknownHelper
 call known (Some helper) =
-    arguments_in known (signature helper).arguments >>= lend_frame known (frame_use (signature helper).shape) >>= λ after. Ok (state_after (signature helper).answer after)
+    arguments_in known (signature helper).arguments >>= lend_frame known (frame_use (signature helper).group) >>= λ after. Ok (state_after (signature helper).answer after)
 
 -- on to the next instruction with a register set
 abbrev pub set_register : AbstractState → ℕ → Kind → Result Edges Cause

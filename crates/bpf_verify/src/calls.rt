@@ -29,7 +29,7 @@ pub(crate) fn call(known: &mut AbstractState, helper: Option<Helper>) -> Result<
 {
     let signature = helper.ok_or(Cause::UnknownHelper)?.signature();
     let arguments = arguments_in(known, signature.arguments)?;
-    lend_frame(known, signature.shape.frame_use(), arguments)?;
+    lend_frame(known, signature.group.frame_use(), arguments)?;
     known.clobber_for_call(signature.answer);
     Ok(())
 }

@@ -10,7 +10,7 @@ use bpf_kinds::{Interval, Kind, Narrowed, refine};
 
 /// The condition of a conditional jump, and its operands.
 #[derive(Clone, Copy)]
-pub(crate) struct Comparison {
+pub(crate) struct JumpCondition {
     pub condition: Condition,
     pub width: Width,
     pub left: Register,
@@ -27,7 +27,7 @@ pub(crate) enum Edge {
     Narrows(Narrowed),
 }
 
-impl Comparison {
+impl JumpCondition {
     /// Returns what the jump adds on an edge. Comparing a register with itself adds nothing.
     pub(crate) fn branch(self, known: &AbstractState, x: Interval, y: Interval, taken: bool) -> Edge
         requires known { IsProperState known.now }

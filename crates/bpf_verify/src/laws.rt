@@ -20,7 +20,7 @@ ghost use Rattle.bpf_meaning.specs.declared.state.State.{State};
 ghost use Rattle.bpf_verify.specs.Annotation.{HasGoodAnnotation, IsAccepted, IsRefusedAt};
 ghost use Rattle.bpf_verify.specs.LiftedState.{LiftedState, Admits, AreEdgesWithin, Edges, IsBelow, IsProper, IsWithin, IsWithinState, Unreached, join};
 ghost use Rattle.bpf_verify.specs.Transfer.{ArePointersWithin, argument_in, call, compare, load_from, pointers_in, read, store_at, transfer};
-ghost use Rattle.bpf_verify.specs.declared.comparison.Comparison.{Comparison};
+ghost use Rattle.bpf_verify.specs.declared.comparison.JumpCondition.{JumpCondition};
 ghost use Rattle.bpf_verify.specs.declared.memory.Pointers.{Pointers};
 ghost use Rattle.bpf_verify.specs.declared.abstract_state.AbstractState.{AbstractState};
 ghost use Rattle.bpf_verify.specs.Verified.{HasBaseAreas};
@@ -69,7 +69,7 @@ pub fn checks_are_monotone()
         → Sound (λ x n. kinds.IsWithin n x) (argument_in higher number required) (argument_in lower number required) }
     ensures call { (lower higher : AbstractState) (helper : Helper) → IsBelow lower higher
         → Sound (λ x n. IsWithinState n x) (call higher (Some helper)) (call lower (Some helper)) }
-    ensures compare { (lower higher : AbstractState) (comparison : Comparison) (x y m n : Kind) → IsBelow lower higher
+    ensures compare { (lower higher : AbstractState) (comparison : JumpCondition) (x y m n : Kind) → IsBelow lower higher
         → kinds.IsProper m → kinds.IsProper n → kinds.IsWithin m x → kinds.IsWithin n y
         → Sound (λ x n. AreEdgesWithin n x) (compare higher comparison x y) (compare lower comparison m n) }
 {}

@@ -15,7 +15,7 @@ ghost use Rattle.bpf_verify.specs.Visit.{IsShown, IsShownRefusal};
 ghost use Rattle.bpf_verify.specs.declared.fault.VerifyFault.TheVariants.{Memory};
 
 use crate::abstract_state::AbstractState;
-use crate::comparison::{Comparison, Edge};
+use crate::comparison::{Edge, JumpCondition};
 use crate::fault::VerifyFault;
 use crate::memory::area_of;
 use crate::successors::Successors;
@@ -161,7 +161,7 @@ fn follow<A: Allocator + Copy>(
 fn branch<A: Allocator + Copy>(
     alloc: A,
     known: Box<AbstractState, A>,
-    comparison: Comparison,
+    comparison: JumpCondition,
     next: Edge,
     target: Edge,
 ) -> Result<EdgeStates<A>, AllocError>
@@ -190,7 +190,7 @@ fn branch<A: Allocator + Copy>(
 /// Returns the state on one edge of a conditional jump.
 fn on_edge<A: Allocator>(
     mut known: Box<AbstractState, A>,
-    comparison: Comparison,
+    comparison: JumpCondition,
     edge: Edge,
 ) -> Option<Box<AbstractState, A>>
     ensures { state_of result ≡ on_edge known.value comparison edge }

@@ -6,7 +6,7 @@ ghost use Rattle.bpf_verify.specs.LiftedState.{AreProperEdges, IsProperState};
 ghost use Rattle.bpf_verify.specs.Transfer.{branches, compare, edges_to, kind_registers};
 
 use crate::abstract_state::AbstractState;
-use crate::comparison::{Comparison, Edge};
+use crate::comparison::{Edge, JumpCondition};
 use bpf_insn::{Source, Width, immediate_operand};
 use bpf_kinds::{Interval, Kind};
 use bpf_meaning::Cause;
@@ -22,13 +22,13 @@ pub(crate) enum Successors {
     Target,
     /// To either one, after a conditional jump.
     Branch {
-        comparison: Comparison,
+        comparison: JumpCondition,
         next: Edge,
         target: Edge,
     },
 }
 
-impl Comparison {
+impl JumpCondition {
     /// Returns where control goes after the jump.
     pub fn successors(self, known: &AbstractState) -> Result<Successors, Cause>
         requires { IsProperState known.now }

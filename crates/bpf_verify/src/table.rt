@@ -7,7 +7,7 @@ ghost use Rattle.bpf_verify.specs.Transfer.{kinds as known_kinds};
 
 use crate::abstract_state::AbstractState;
 use crate::calls::call;
-use crate::comparison::Comparison;
+use crate::comparison::JumpCondition;
 use crate::memory::{load_kind, store};
 use crate::operands::{number_in, number_or, operation_kind};
 use crate::successors::Successors;
@@ -66,7 +66,7 @@ pub(crate) fn transfer(known: &mut AbstractState, insn: Insn) -> Result<Successo
             right,
             ..
         } => {
-            let comparison = Comparison {
+            let comparison = JumpCondition {
                 condition,
                 width,
                 left,

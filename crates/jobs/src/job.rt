@@ -33,6 +33,7 @@ impl<A: Allocator + Copy> Job<A> {
     }
 
     /// Advances by a turn. If an allocation fails, the job is unchanged.
+    /// No caller in this program but the table of jobs: part of the library's fixed interface.
     pub fn advance(&mut self, counties: &[County<A>]) -> Result<(), AllocError>
         requires { IsCursorIn counties.now self.old.cursor }
         ensures cursor { IsCursorIn counties.now self.new.cursor }

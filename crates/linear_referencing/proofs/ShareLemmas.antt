@@ -4,7 +4,7 @@ use Rattle.std.proofs.Common.{w64, to_z, of_z, FitsSigned, refl, subst, inl, inr
 use Rattle.std.specs.Int.{w128}
 use Rattle.std.proofs.Math.Nat.{div-le_of_le-mul, mul-le-mul_right, mul_comm, zero-div, div-zero}
 use Rattle.std.proofs.lemmas.Bool.Decides.{nat_tests}
-use Rattle.linear_referencing.specs.Place.{IsBetween, between}
+use Rattle.linear_referencing.specs.Place.{IsBetween, coordinate_between}
 use Rattle.std.proofs.lemmas.Int.{ints, fits_signed_from_abs, fits_signed_mul, to_z-of_z, unsigned_abs-mul}
 
 abs-neg : (n : ℕ) → nat_abs (neg_ℤ (pos n)) ≡ n
@@ -62,7 +62,7 @@ difference_is a b x y is is' small small' =
 
 -- a coordinate between two others that are apart
 pub between-apart : (from to : ℤ) (part whole : ℕ) → whole ≢ 0
-    → between from to part whole ≡ from +ℤ int_div ((to -ℤ from) *ℤ pos part) (pos whole)
+    → coordinate_between from to part whole ≡ from +ℤ int_div ((to -ℤ from) *ℤ pos part) (pos whole)
 between-apart from to part whole apart = grind (arith, nat_tests)
 
 -- a share of a distance is no longer than the distance, also with a minus sign
@@ -90,7 +90,7 @@ part-of-way from to part whole within =
     let whole_way : from +ℤ (to -ℤ from) ≡ to = grind (arith, ints) in
     subst P whole_way (part-between from (to -ℤ from) part whole within)
 
-pub lies_between_lem : (from to : ℤ) (part whole : ℕ) → part ≤ whole → IsBetween from to (between from to part whole)
+pub lies_between_lem : (from to : ℤ) (part whole : ℕ) → part ≤ whole → IsBetween from to (coordinate_between from to part whole)
 lies_between_lem from to part zero within =
     let P : ℤ → Type 0 = λ coordinate. IsBetween from to coordinate in
     let start : from +ℤ int_div ((to -ℤ from) *ℤ pos part) (pos 0) ≡ from = rw (div-none ((to -ℤ from) *ℤ pos part)) (grind (arith, ints)) in

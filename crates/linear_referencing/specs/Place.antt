@@ -6,8 +6,8 @@ use Rattle.linear_referencing.specs.declared.place.Place.{Place}
 use Rattle.tl_segments.specs.declared.shape.Point.{Point}
 
 -- as far from one coordinate to another as a part is of a whole, with the quotient truncated toward zero
-abbrev pub between : ℤ → ℤ → ℕ → ℕ → ℤ
-between from to part whole = if whole == 0 then from else from +ℤ int_div ((to -ℤ from) *ℤ pos part) (pos whole)
+abbrev pub coordinate_between : ℤ → ℤ → ℕ → ℕ → ℤ
+coordinate_between from to part whole = if whole == 0 then from else from +ℤ int_div ((to -ℤ from) *ℤ pos part) (pos whole)
 
 -- the coordinate is one of two others or between them
 abbrev pub IsBetween : ℤ → ℤ → ℤ → Type 0
@@ -16,8 +16,8 @@ IsBetween from to coordinate = ((from ≤ℤ coordinate) × (coordinate ≤ℤ t
 -- the place at this distance from the first of two points, which are `whole` apart
 abbrev pub place_between : Point → Point → ℕ → ℕ → Place
 place_between from to part whole = record {
-  longitude = between from.longitude to.longitude part whole;
-  latitude = between from.latitude to.latitude part whole;
+  longitude = coordinate_between from.longitude to.longitude part whole;
+  latitude = coordinate_between from.latitude to.latitude part whole;
 }
 
 -- The place is on a piece of the line, and this distance from the start of the line along it.

@@ -15,7 +15,7 @@ const UNIT: u64 = 32_768;
 
 // A shape has 10,000 points at most, and its segment two ends.
 /// The greatest number of points of a line, which keeps its length below 2^63.
-pub const MAX_LINE_POINTS: usize = 16_384;
+pub(crate) const MAX_LINE_POINTS: usize = 16_384;
 
 /// The cosine of each whole degree from 0 to 90, in units of 1/32,768, rounded to the nearest.
 const COSINES: [u16; 91] = [
@@ -29,7 +29,7 @@ const COSINES: [u16; 91] = [
 ];
 
 /// Returns the length of a line from its first to its last point, in units of 1/32,768 of a millionth of a degree of latitude (3.4 micrometers).
-pub fn line_length(points: &[Point]) -> u64
+pub(crate) fn line_length(points: &[Point]) -> u64
     requires { length points.now ≤ MAX_LINE_POINTS }
     ensures value { IsLength points.now result }
     ensures small { result < 2 ^ 63 }
@@ -48,7 +48,7 @@ pub fn line_length(points: &[Point]) -> u64
 
 /// Returns the length of a straight piece of a line, in the unit of [`line_length`]: degrees of longitude are as long as they are in the middle of the
 /// piece.
-pub fn piece_length(from: Point, to: Point) -> u64
+pub(crate) fn piece_length(from: Point, to: Point) -> u64
     ensures value { IsPieceLength from to result }
     ensures small { result < 2 ^ 49 }
 {

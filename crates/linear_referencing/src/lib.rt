@@ -7,5 +7,4 @@ mod length;
 mod place;
 
 pub use interpolation::interpolate;
-pub use length::{MAX_LINE_POINTS, line_length, piece_length};
 pub use place::{Place, Share, place_along};

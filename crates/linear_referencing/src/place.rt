@@ -1,7 +1,7 @@
 //! The place at a share of a line's length.
 ghost use Rattle.std.specs.Prelude.{◌≡◌, ◌+◌, ◌*◌, ◌/◌, ◌^◌, ◌≤◌, ◌<◌, ℕ, length};
 ghost use Rattle.linear_referencing.specs.Length.{IsLength};
-ghost use Rattle.linear_referencing.specs.Place.{IsAtDistance, IsAtShare, between, place_between};
+ghost use Rattle.linear_referencing.specs.Place.{IsAtDistance, IsAtShare, coordinate_between, place_between};
 ghost use Rattle.linear_referencing.specs.declared.length.TheConstants.{MAX_LINE_POINTS};
 
 use crate::interpolation::interpolate;
@@ -76,16 +76,16 @@ fn place_between(from: Point, to: Point, part: u64, whole: u64) -> Place
     ensures { result ≡ place_between from to part whole }
 {
     Place {
-        longitude: between(from.longitude, to.longitude, part, whole),
-        latitude: between(from.latitude, to.latitude, part, whole),
+        longitude: coordinate_between(from.longitude, to.longitude, part, whole),
+        latitude: coordinate_between(from.latitude, to.latitude, part, whole),
     }
 }
 
 /// Returns the coordinate as far from `from` to `to` as `part` is of `whole`.
-fn between(from: i32, to: i32, part: u64, whole: u64) -> i64
+fn coordinate_between(from: i32, to: i32, part: u64, whole: u64) -> i64
     requires within { part ≤ whole }
     requires whole { whole < 2 ^ 49 }
-    ensures { result ≡ between from to part whole }
+    ensures { result ≡ coordinate_between from to part whole }
 {
     if whole == 0 {
         return i64::from(from);

@@ -8,7 +8,7 @@ use Rattle.std.proofs.lemmas.Str.{IsUtf8-from_is_utf8, is_utf8-from_IsUtf8}
 use Rattle.std.proofs.lemmas.List.{append-nil, map-append}
 use Rattle.std.proofs.lemmas.Bool.{false_from_ne_true}
 use Rattle.std.proofs.lemmas.Bool.Decides.{nat_tests}
-use Rattle.listing_lines.specs.SourceLines.{SourceLine, IsChecked, checked, fault_at, followed, in_order, line_in, line_of, lines_from, lines_in}
+use Rattle.listing_lines.specs.SourceLines.{SourceLine, IsChecked, valid_line, fault_at, followed, in_order, line_in, line_of, lines_from, lines_in}
 use Rattle.listing_lines.specs.SourceLines.{lines_or_none}
 use Rattle.listing_lines.specs.SourceLines.{preceded}
 use Rattle.listing_lines.specs.declared.source_lines.LinesFault.{LinesFault}
@@ -26,12 +26,12 @@ pub preceded-none : (later : Result (List SourceLine) LinesFault) → preceded [
 preceded-none (Ok later) = refl
 preceded-none (Err fault) = refl
 
-pub lines-next : (number last : ℕ) (text : List ℕ) (texts : List (List ℕ)) (line : SourceLine) → checked last text ≡ Ok line
+pub lines-next : (number last : ℕ) (text : List ℕ) (texts : List (List ℕ)) (line : SourceLine) → valid_line last text ≡ Ok line
     → lines_from number last (text ∷ texts) ≡ preceded (line ∷ []) (lines_from (number + 1) line.place texts)
 unfolding lines_from
 lines-next number last text texts line is = ap (λ held. followed number held (λ place. lines_from (number + 1) place texts)) is
 
-pub lines-fault : (number last : ℕ) (text : List ℕ) (texts : List (List ℕ)) (flaw : SourceLineFaultKind) → checked last text ≡ Err flaw
+pub lines-fault : (number last : ℕ) (text : List ℕ) (texts : List (List ℕ)) (flaw : SourceLineFaultKind) → valid_line last text ≡ Err flaw
     → lines_from number last (text ∷ texts) ≡ Err (fault_at number flaw)
 unfolding lines_from
 lines-fault number last text texts flaw is = ap (λ held. followed number held (λ place. lines_from (number + 1) place texts)) is
@@ -41,13 +41,13 @@ unfolding lines_from
 lines-none number last = refl
 
 -- a line's place and text
-pub checked-text : (last : ℕ) (text : List ℕ) → IsUtf8 text → checked last text ≡ in_order last (line_in text)
-unfolding checked
-checked-text last text is = rw (is_utf8-from_IsUtf8 text is) refl
+pub valid_line-text : (last : ℕ) (text : List ℕ) → IsUtf8 text → valid_line last text ≡ in_order last (line_in text)
+unfolding valid_line
+valid_line-text last text is = rw (is_utf8-from_IsUtf8 text is) refl
 
-pub checked-not : (last : ℕ) (text : List ℕ) → (IsUtf8 text → ⊥) → checked last text ≡ Err NotText
-unfolding checked
-checked-not last text is = rw (false_from_ne_true (is_utf8 text) (λ test. is (IsUtf8-from_is_utf8 text test))) refl
+pub valid_line-not : (last : ℕ) (text : List ℕ) → (IsUtf8 text → ⊥) → valid_line last text ≡ Err NotText
+unfolding valid_line
+valid_line-not last text is = rw (false_from_ne_true (is_utf8 text) (λ test. is (IsUtf8-from_is_utf8 text test))) refl
 
 pub order-fault : (last : ℕ) (found : Option SourceLine) (line : SourceLine) → Some line ≡ found → line.place < last → in_order last found ≡ Err OutOfOrder
 order-fault last found line is before =
@@ -77,7 +77,7 @@ AreRead file before at = lines_in file ≡ preceded before (lines_from at.number
 pub record ReadsLine (at : ReadState) (after : List ℕ) (result : Result PlacedLine LinesFault) : Type 0 where
   pub text : List ℕ
   pub cut : lines at.rest ≡ text ∷ lines after
-  pub is : IsChecked at.number (checked at.last text) result
+  pub is : IsChecked at.number (valid_line at.last text) result
 
 -- one more line is read, or has a fault, or there is none
 pub lines-more : (file : List ℕ) (before : List SourceLine) (at : ReadState) (after : List ℕ) (line : PlacedLine)

@@ -44,8 +44,8 @@ in_order last None = Err WithoutPlace
 in_order last (Some line) = if nat_lt line.place last then Err OutOfOrder else Ok line
 
 -- a line's place and text, given the place of the line above it
-unfoldable pub checked : ℕ → List ℕ → Result SourceLine SourceLineFaultKind
-checked last text = if is_utf8 text then in_order last (line_in text) else Err NotText
+unfoldable pub valid_line : ℕ → List ℕ → Result SourceLine SourceLineFaultKind
+valid_line last text = if is_utf8 text then in_order last (line_in text) else Err NotText
 
 -- lines put before other lines
 abbrev pub preceded : List SourceLine → Result (List SourceLine) LinesFault → Result (List SourceLine) LinesFault
@@ -62,7 +62,7 @@ followed number (Err flaw) later = Err (fault_at number flaw)
 -- the lines from a line number on, given the place of the line above them, or the first fault
 unfoldable pub lines_from : ℕ → ℕ → List (List ℕ) → Result (List SourceLine) LinesFault
 lines_from number last [] = Ok []
-lines_from number last (text ∷ texts) = followed number (checked last text) (λ place. lines_from (number + 1) place texts)
+lines_from number last (text ∷ texts) = followed number (valid_line last text) (λ place. lines_from (number + 1) place texts)
 
 -- the lines of a file, which end in LF or CR LF
 abbrev pub lines_in : List ℕ → Result (List SourceLine) LinesFault

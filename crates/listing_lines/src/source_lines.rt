@@ -2,7 +2,7 @@
 ghost use Rattle.std.specs.Prelude.{◌≡◌, ◌≤◌, ◌+◌, ◌∷◌, ◌++◌, [], IfOk, IfSome, OnOk, MatchResult, Ok, Err, map, option_map};
 ghost use Rattle.std.specs.String.{string_bytes};
 ghost use Rattle.listing_lines.specs.LinesFault as line_fault;
-ghost use Rattle.listing_lines.specs.SourceLines.{IsChecked, checked, line_in, line_of, lines_in, lines_or_none, parts_of, place_in, source_text};
+ghost use Rattle.listing_lines.specs.SourceLines.{IsChecked, valid_line, line_in, line_of, lines_in, lines_or_none, parts_of, place_in, source_text};
 
 use bpf_assembler::first_line;
 use numerals::decimal_value;
@@ -93,7 +93,7 @@ impl<'a> SourceLines<'a> {
             let (line, after) = first_line(rest);
             rest = after;
             number += 1;
-            let read = checked(number, last, line)?;
+            let read = valid_line(number, last, line)?;
             last = read.place;
         }
         Ok(SourceLines { file })
@@ -118,7 +118,7 @@ impl<'a> SourceLines<'a> {
             let (line, after) = first_line(rest);
             rest = after;
             number += 1;
-            let Ok(read) = checked(number, last, line) else {
+            let Ok(read) = valid_line(number, last, line) else {
                 return Ok(Vec::new(alloc));
             };
             push_line(&mut lines, read)?;
@@ -151,8 +151,8 @@ fn push_line<'a, A: Allocator>(
 }
 
 /// Reads a line, given its number and the place of the line above it.
-fn checked(number: usize, last: usize, line: &[u8]) -> Result<PlacedLine<'_>, LinesFault>
-    ensures { IsChecked number (checked last line.now) result }
+fn valid_line(number: usize, last: usize, line: &[u8]) -> Result<PlacedLine<'_>, LinesFault>
+    ensures { IsChecked number (valid_line last line.now) result }
 {
     match check(last, line) {
         Ok(read) => Ok(read),
@@ -160,9 +160,9 @@ fn checked(number: usize, last: usize, line: &[u8]) -> Result<PlacedLine<'_>, Li
     }
 }
 
-#[tactic(auto, unfolding(crate::specs::SourceLines::checked))]
+#[tactic(auto, unfolding(crate::specs::SourceLines::valid_line))]
 fn check(last: usize, line: &[u8]) -> Result<PlacedLine<'_>, SourceLineFaultKind>
-    ensures { MatchResult result (λ read. checked last line.now ≡ Ok (line_of read)) (λ flaw. checked last line.now ≡ Err flaw) }
+    ensures { MatchResult result (λ read. valid_line last line.now ≡ Ok (line_of read)) (λ flaw. valid_line last line.now ≡ Err flaw) }
 {
     let Ok(text) = str::from_utf8(line) else {
         return Err(SourceLineFaultKind::NotText);

@@ -4,7 +4,7 @@ use Rattle.std.specs.Prelude.{◌∷◌, get_or, map, filter, Option, Some, None
 use Rattle.std.specs.Int.{w32, cast_unsigned}
 use Rattle.std.specs.List.{range_with_len}
 use Rattle.bpf_helpers.specs.Helper.{by_number, signature}
-use Rattle.bpf_helpers.specs.Shape.{frame_use}
+use Rattle.bpf_helpers.specs.Group.{frame_use}
 use Rattle.bpf_helpers.specs.declared.helper.Helper.{Helper}
 use Rattle.bpf_helpers.specs.declared.signature.Argument.{Argument}
 use Rattle.bpf_helpers.specs.declared.signature.Argument.TheVariants as argument
@@ -72,7 +72,7 @@ read_if frame_use.Reads known = lent_bytes (kind_of known 2) (kind_of known 3)
 
 abbrev pub called_bytes : Option Helper → AbstractState → Option Bytes
 called_bytes None known = None
-called_bytes (Some helper) known = read_if (frame_use (signature helper).shape) known
+called_bytes (Some helper) known = read_if (frame_use (signature helper).group) known
 
 -- the bytes of the frame that an instruction may read
 abbrev pub read_bytes : AbstractState → Insn → Option Bytes

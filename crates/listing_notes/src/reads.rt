@@ -130,7 +130,7 @@ fn called_bytes(helper: Option<Helper>, known: &AbstractState) -> Option<Bytes>
     requires { IsProperState known.now }
     ensures { result ≡ called_bytes helper known.now }
 {
-    match helper?.signature().shape.frame_use() {
+    match helper?.signature().group.frame_use() {
         FrameUse::Reads => lent_bytes(known),
         FrameUse::Nothing | FrameUse::Writes => None,
     }

@@ -260,7 +260,7 @@ pub fn open_optional<F: Files>(files: &mut F, name: &str) -> Result<Input<F::Rea
 // The size of the pieces in which a file is read.
 const PIECE: usize = 4096;
 
-/// Reads the rest of the reader's bytes, to its end. No read is retried.
+/// Reads the rest of the reader's bytes, to its end. No read is retried. Public for tests of programs.
 pub fn read_to_end<A: Allocator, R: CountedRead>(
     alloc: A,
     reader: &mut R,

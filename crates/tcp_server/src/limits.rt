@@ -43,7 +43,7 @@ impl Limits {
     }
 }
 
-/// Returns the time that the next call may wait after `elapsed` of a limit, or `None` if the limit is over.
+/// Returns the time that the next call may wait after `elapsed` of a limit, or `None` if the limit is over. Public for tests, which have no clock.
 pub fn wait_left(idle: Duration, limit: Duration, elapsed: Duration) -> Option<Duration>
     ensures { option_map as_nanos result ≡ wait (as_nanos idle) (as_nanos limit) (as_nanos elapsed) }
 {

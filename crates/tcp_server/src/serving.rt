@@ -47,6 +47,7 @@ pub fn serve_all<L: Listener<Stream = TcpStream>, C: Clock, S: Service>(
 
 /// Accepts one connection, lets the service serve it, closes it, and gives the service a turn. Only a failed accept is an error; failures of the
 /// connection itself are ignored.
+/// No caller in this program but the loop: part of the library's fixed interface.
 pub fn serve_next<L: Listener<Stream = TcpStream>, C: Clock, S: Service>(
     acceptor: &mut Acceptor<L>,
     clock: &C,

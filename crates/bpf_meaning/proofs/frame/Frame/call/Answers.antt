@@ -4,7 +4,7 @@ use Rattle.std.proofs.lemmas.List.{length-take, length-drop}
 use Rattle.bpf_insn.specs.declared.memory.TheConstants.{FRAME_LENGTH}
 use Rattle.bpf_helpers.specs.Call.{Called, LieWithin, bytes_read, call, second, third, written_length}
 use Rattle.bpf_helpers.specs.Helper.{signature}
-use Rattle.bpf_helpers.specs.Shape.{frame_use}
+use Rattle.bpf_helpers.specs.Group.{frame_use}
 use Rattle.bpf_helpers.specs.declared.signature.FrameUse.{FrameUse}
 use Rattle.bpf_helpers.specs.declared.signature.FrameUse.TheVariants.{Writes}
 use Rattle.bpf_helpers.specs.declared.signature.Signature.{Signature}
@@ -22,11 +22,11 @@ alike f frame at read bytes new same is = subst (λ (b : List ℕ). new ≡ writ
 pub returns-in-Writes-clause-frame : goal.returns-in-Writes-clause-frame
 returns-in-Writes-clause-frame g c =
     let arguments = c.args.arguments in
-    let uses : c.frame_use.result ≡ frame_use (signature c.args.helper).shape =
-    c.frame_use.ensures ∙ ap (λ (s : Signature). frame_use s.shape) c.signature.ensures in
-    let use_is : frame_use (signature c.args.helper).shape ≡ Writes = sym uses ∙ c.in-Writes.is in
-    let read = bytes_read (frame_use (signature c.args.helper).shape) arguments c.self.inside.bytes in
-    let same = read_alike c.self.inside.marks c.self.inside.bytes (omega arith) (frame_use (signature c.args.helper).shape) arguments
+    let uses : c.frame_use.result ≡ frame_use (signature c.args.helper).group =
+    c.frame_use.ensures ∙ ap (λ (s : Signature). frame_use s.group) c.signature.ensures in
+    let use_is : frame_use (signature c.args.helper).group ≡ Writes = sym uses ∙ c.in-Writes.is in
+    let read = bytes_read (frame_use (signature c.args.helper).group) arguments c.self.inside.bytes in
+    let same = read_alike c.self.inside.marks c.self.inside.bytes (omega arith) (frame_use (signature c.args.helper).group) arguments
     c.self.view_is c.requires.written in
     let does = λ (b : List ℕ). call c.args.helper c.args.segment.now arguments b c.args.score.now in
     let long : length (does read).written ≡ third arguments =
@@ -38,7 +38,7 @@ returns-in-Writes-clause-frame g c =
     (does read).written =
     simp (length-take, length-drop) (omega arith) in
     alike does c.args.self.now (second arguments) read
-    (written_bytes (bytes_read (frame_use (signature c.args.helper).shape) arguments c.args.self.now.bytes)) _ same
+    (written_bytes (bytes_read (frame_use (signature c.args.helper).group) arguments c.args.self.now.bytes)) _ same
     (c.clear_slots.ensures
     ∙ ap (λ (frame : FrameContents). let new : FrameContents = record frame
     { slots = overwrite_slots None frame.slots (second arguments) (third arguments) } in new)
@@ -51,19 +51,19 @@ returns-in-Writes-clause-frame g c =
 pub returns-in_default : goal.returns-in_default
 returns-in_default g c =
     let arguments = c.args.arguments in
-    let read = bytes_read (frame_use (signature c.args.helper).shape) arguments c.self.inside.bytes in
-    let same = read_alike c.self.inside.marks c.self.inside.bytes (omega arith) (frame_use (signature c.args.helper).shape) arguments
+    let read = bytes_read (frame_use (signature c.args.helper).group) arguments c.self.inside.bytes in
+    let same = read_alike c.self.inside.marks c.self.inside.bytes (omega arith) (frame_use (signature c.args.helper).group) arguments
     c.self.view_is c.requires.written in
     let does = λ (b : List ℕ). call c.args.helper c.args.segment.now arguments b c.args.score.now in
-    let uses : c.frame_use.result ≡ frame_use (signature c.args.helper).shape =
-    c.frame_use.ensures ∙ ap (λ (s : Signature). frame_use s.shape) c.signature.ensures in
+    let uses : c.frame_use.result ≡ frame_use (signature c.args.helper).group =
+    c.frame_use.ensures ∙ ap (λ (s : Signature). frame_use s.group) c.signature.ensures in
     let none = written-nothing c.args.helper c.args.segment.now arguments read c.args.score.now
     (λ is. c.in_default.not-Writes (uses ∙ is)) in
     record {
       answer = c.call-answer.ensures.answer ∙ ap (λ (b : List ℕ). (does b).answer) same;
       frame =
           alike does c.args.self.now (second arguments) read
-          (written_bytes (bytes_read (frame_use (signature c.args.helper).shape) arguments c.args.self.now.bytes)) _ same
+          (written_bytes (bytes_read (frame_use (signature c.args.helper).group) arguments c.args.self.now.bytes)) _ same
           (call_writes_nothing c.self.inside.marks c.self.inside.bytes (second arguments) c.self.view_is none c.call-answer.ensures.frame);
       score = c.call-answer.ensures.score ∙ ap (λ (b : List ℕ). (does b).score) same;
     }

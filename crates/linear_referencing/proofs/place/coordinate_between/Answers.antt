@@ -3,7 +3,7 @@ use Rattle.std.specs.Int.{w128}
 use Rattle.std.proofs.lemmas.Bool.Decides.{nat_tests}
 use Rattle.std.proofs.lemmas.Int.{fits_signed_from_abs, ints, to_z-of_z}
 use Rattle.linear_referencing.proofs.ShareLemmas.{between-apart, difference_is}
-use Rattle.linear_referencing.proofs.place.between.Goals as goal
+use Rattle.linear_referencing.proofs.place.coordinate_between.Goals as goal
 
 pub returns : goal.returns
 returns c =

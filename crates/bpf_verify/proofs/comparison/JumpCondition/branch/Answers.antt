@@ -1,7 +1,7 @@
 use Rattle.std.proofs.Common.{sym, ◌∙◌}
 use Rattle.bpf_kinds.proofs.NarrowingLaws.{refine-within}
 use Rattle.bpf_verify.proofs.StateLaws.{with_narrowed_is_proper}
-use Rattle.bpf_verify.proofs.comparison.Comparison.branch.Goals as goal
+use Rattle.bpf_verify.proofs.comparison.JumpCondition.branch.Goals as goal
 
 pub returns-in-Some-clause-proper : goal.returns-in-Some-clause-proper
 returns-in-Some-clause-proper c =

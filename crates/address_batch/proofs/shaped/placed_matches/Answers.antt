@@ -3,7 +3,7 @@ use Rattle.std.proofs.lemmas.List.{map-append, take_all, take_more}
 use Rattle.address_batch.specs.ShapedLookup.{ArePlaced}
 use Rattle.address_batch.proofs.ShapedLemmas.{placed-more}
 use Rattle.geocode.specs.Matches.{match_of}
-use Rattle.address_batch.proofs.shaped.placed.Goals as goal
+use Rattle.address_batch.proofs.shaped.placed_matches.Goals as goal
 
 pub loop-one-preserved : goal.loop-one-preserved
 loop-one-preserved g c =
