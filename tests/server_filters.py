@@ -24,7 +24,8 @@ from filters import CODES, spelled
 FILTERS, PROGRAMS = 120, 60
 MOST_BODY = 1_048_576
 FORMATS = {"rows": "application/octet-stream", "csv": "text/csv", "geojsonseq": "application/geo+json-seq"}
-LANGUAGES = ("cql2-text", "cql2-json")
+# What the command takes and the server doesn't.
+NO_SHAPES = b"error: --geometry shape needs the type 2 files, which a server doesn't load\n"
 PHRASES = {
     200: b"OK",
     400: b"Bad Request",
@@ -55,6 +56,16 @@ JSON = (
     "",
 )
 ADDRESSES = ("number", "name", "id", "zip", "predir", "type", "sufdir", "note")
+# Repeated parameters, those of another route, and none.
+FURTHER = (
+    ("filter-lang", "cql2-json"),
+    ("format", "csv"),
+    ("score", "TLID"),
+    ("columns", "RT"),
+    ("geometry", "line"),
+    ("other", "é&="),
+    ("Score", "TLID"),
+)
 
 
 class Reply(NamedTuple):
@@ -123,6 +134,11 @@ class Commands:
     def compiled(self, filter_bytes: bytes, options: tuple[str, ...]) -> tuple[int, bytes, bytes]:
         return self.run("compile", "--filter", "-", *options, given=filter_bytes)
 
+    def fault_of(self, command: tuple[str, ...], options: tuple[str, ...]) -> bytes | None:
+        """Returns the line about wrong options, if they are. The command reads nothing before them."""
+        status, _, errors = self.run(*command, *options)
+        return errors.splitlines(keepends=True)[0] if status == 2 else None
+
     def selected(self, filter_text: str, options: tuple[str, ...]) -> bytes:
         status, rows, errors = self.run(
             "select", f"--where={filter_text}", *options, "--data", str(self.folder), *CODES
@@ -169,35 +185,40 @@ class Reading:
 
     def filtered(self, request: Request) -> Reply | None:
         options = self.options(request)
+        fault = self.fault(request, options)
+        if fault is not None:
+            return Reply(400, fault)
         try:
             text = request.body.decode()
         except UnicodeDecodeError:
             return of_status(400)
-        if options is None:
-            return of_status(400)
-        status, program, errors = self.commands.compiled(request.body, options)
+        status, program, errors = self.commands.compiled(request.body, self.of_filter(options))
         if status == 1:
             return Reply(422, errors)
         if request.path == "/compile":
             return Reply(200, program, FORMATS["rows"])
         if request.path == "/filter-jobs":
             return None
-        form = request.value("format") or "rows"
-        return Reply(200, self.commands.selected(text, (*options, "--format", form)), FORMATS[form])
+        return Reply(200, self.commands.selected(text, options), FORMATS[request.value("format") or "rows"])
 
-    def options(self, request: Request) -> tuple[str, ...] | None:
-        """Returns the options of the command for the parameters, or None if a value is invalid."""
-        score, language, form = (request.value(key) for key in ("score", "filter-lang", "format"))
-        if score is not None and score.upper() not in {column.name for column in NUMERIC}:
-            return None
-        if language is not None and language not in LANGUAGES:
-            return None
-        if request.path == "/select" and form is not None and form not in FORMATS:
-            return None
-        return (
-            *(("--score", score) if score is not None else ()),
-            *(("--filter-lang", language) if language is not None else ()),
-        )
+    def fault(self, request: Request, options: tuple[str, ...]) -> bytes | None:
+        """Returns the line about the parameters of a request, if they are wrong."""
+        no_files = ("select", "--where", "TRUE", "--data", str(self.commands.folder / "none"), CODES[0])
+        command = no_files if request.path == "/select" else ("compile", "--filter", str(self.commands.folder / "none"))
+        fault = self.commands.fault_of(command, options)
+        if fault is None and request.value("geometry") == "shape":
+            return NO_SHAPES
+        return fault
+
+    def options(self, request: Request) -> tuple[str, ...]:
+        """Returns the options of the command for the parameters, in their order."""
+        first = {key: value for key, value in reversed(request.query)}
+        keys = dict.fromkeys(key for key, _ in request.query)
+        return tuple(word for key in keys for word in (f"--{key}", first[key]))
+
+    def of_filter(self, options: tuple[str, ...]) -> tuple[str, ...]:
+        pairs = zip(options[::2], options[1::2])
+        return tuple(word for pair in pairs if pair[0] in ("--score", "--filter-lang") for word in pair)
 
     def explained(self, request: Request) -> Reply:
         status, listing, errors = self.commands.explained(request.body)
@@ -251,25 +272,35 @@ class RequestDice:
         csv.writer(text, lineterminator=self.dice.choice(("\n", "\r\n"))).writerows([names, *rows])
         return text.getvalue().encode()
 
-    def query(self, language: str | None) -> list[tuple[str, str]]:
+    def layer(self) -> list[tuple[str, str]]:
+        """Draws the parameters of a layer."""
+        pairs = [("format", self.dice.choice((*FORMATS, *FORMATS, "csv", "csv", "CSV", "json", "")))]
+        if chance(self.dice, 50):
+            names = [
+                self.dice.choice((*BY_NAME, "tlid", "TLIDS", "")) for _ in range(self.dice.choice((0, 1, 2, 2, 3)))
+            ]
+            pairs.append(("columns", ",".join(names)))
+        if chance(self.dice, 40):
+            pairs.append(("geometry", self.dice.choice(("none", "none", "line", "shape", "point", ""))))
+        return pairs
+
+    def query(self, path: str, language: str | None) -> list[tuple[str, str]]:
         pairs = [("filter-lang", language)] if language is not None else []
         if chance(self.dice, 40):
             pairs.append(
                 ("score", self.dice.choice((*[column.name for column in NUMERIC], "fraddl", "FENAME", "", "ZIP")))
             )
-        if chance(self.dice, 50):
-            pairs.append(("format", self.dice.choice((*FORMATS, *FORMATS, "CSV", "json", ""))))
-        if chance(self.dice, 10):
-            pairs.append(
-                self.dice.choice((("filter-lang", "cql2-json"), ("format", "csv"), ("score", "TLID"), ("other", "é&=")))
-            )
+        if path == "/select" and chance(self.dice, 60):
+            pairs.extend(self.layer())
+        if chance(self.dice, 15):
+            pairs.append(self.dice.choice(FURTHER))
         self.dice.shuffle(pairs)
         return pairs
 
     def request(self) -> Request:
         path = self.dice.choice(Reading.ROUTES * 4 + ("/Select", "/select/", "/filter-jobs/1"))
         language = self.dice.choice((None, None, "cql2-text", "cql2-json", "cql2-json", "json"))
-        query = self.query(language)
+        query = self.query(path, language)
         body = self.body(path, next((value for key, value in query if key == "filter-lang"), None))
         request = Request("POST", path, query, body, [str(len(body))])
         if chance(self.dice, 88):
@@ -337,7 +368,6 @@ def difference(client: Client, reading: Reading, dice: Random, request: Request)
         client.jobs += 1
         wanted = Reply(200, b"%d\n" % client.jobs)
         options = reading.options(request)
-        assert options is not None
         if replied == wanted.bytes() and client.job_rows(client.jobs) != reading.commands.selected(
             request.body.decode(), options
         ):

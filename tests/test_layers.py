@@ -15,6 +15,7 @@ from random import Random
 from typing import NamedTuple
 
 import pytest
+from filter_counties import BY_NAME, Kind
 from harness.batches import add_batches
 from harness.program import TOP
 
@@ -27,10 +28,9 @@ POINTS_OF_A_LINE = 10
 MOST_POINTS = 25
 FORMATS = {"csv": ["CSV:/vsistdin/", "-oo", "KEEP_GEOM_COLUMNS=NO"], "geojsonseq": ["/vsistdin?buffer_limit=-1"]}
 # The columns that the driver has, too. It makes integers of some. Its house numbers are texts.
-COLUMNS = (
-    "TLID SIDE1 SOURCE FEDIRP FENAME FETYPE FEDIRS CFCC FRADDL TOADDL FRADDR TOADDR FRADDL_TEXT TOADDL_TEXT FRADDR_TEXT TOADDR_TEXT "
-    "FRIADDL TOIADDL FRIADDR TOIADDR ZIPL ZIPR STATEL STATER COUNTYL COUNTYR COUSUBL COUSUBR PLACEL PLACER TRACTL TRACTR BLOCKL BLOCKR"
-).split()
+COLUMNS = [
+    name for name, column in BY_NAME.items() if column.kind is not Kind.COORDINATE and name not in ("RT", "VERSION")
+]
 LEADING_ZEROS = re.compile("^0+(?=[0-9])")
 
 

@@ -10,11 +10,11 @@ from harness.server import Server
 
 pytestmark = [pytest.mark.needs("curl"), pytest.mark.xdist_group("replies")]
 
-# The query; the filter; the media type and the file of the body.
+# The query; the filter; the media type of the body; the file that it begins, and the number of its lines.
 ROWS = """
-format=csv; TRUE; text/csv; select.csv
-format=csv&score=ZIPR; FALSE; text/csv; nothing.csv
-format=geojsonseq&score=ZIPR; TRUE; application/geo+json-seq; select.geojsonl
+format=csv; TRUE; text/csv; select.csv; 2
+format=csv&score=ZIPR; FALSE; text/csv; select.csv; 1
+format=geojsonseq&score=ZIPR; TRUE; application/geo+json-seq; select.geojsonl; 1
 """
 
 
@@ -28,6 +28,7 @@ def server(tmp_path_factory: pytest.TempPathFactory) -> Iterator[Server]:
 
 @pytest.mark.parametrize("row", ROWS.strip().splitlines())
 def test_reply(server: Server, row: str) -> None:
-    query, text, media, file = row.split("; ")
+    query, text, media, file, count = row.split("; ")
+    lines = (TOP / "tests/replies" / file).read_bytes().splitlines(keepends=True)
     reply = ask("-w", "%{stderr}%{http_code} %{content_type}", "--data-binary", text, f"{server.url}/select?{query}")
-    assert reply == (f"200 {media}", (TOP / "tests/replies" / file).read_bytes())
+    assert reply == (f"200 {media}", b"".join(lines[: int(count)]))

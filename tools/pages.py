@@ -173,23 +173,15 @@ def fields_of(record_type: str) -> list[Field]:
     return [Field(name, int(first), int(last), lowered(meaning)) for meaning, name, first, last in found]
 
 
-def flags() -> list[Field]:
-    """Returns the flags of imputed addresses, which filters name."""
-    found = re.findall(r"TextColumn::((?:Fr|To)iadd[lr]) => Places\((\d+), (\d+)\)", source("cql2/src/column.rt"))
-    return [
-        Field(
-            name.upper(),
-            int(first),
-            int(last),
-            f"whether {name.upper().replace('IADD', 'ADD')} is imputed: `1`, `0` or blank",
-        )
-        for name, first, last in found
-    ]
+def other_fields() -> list[Field]:
+    """Returns the fields that only the table of columns names."""
+    found = re.findall(r'// (.*)\n +\w+ \w+ "(\w+)" Places\((\d+), (\d+)\);', source("cql2/src/column.rt"))
+    return [Field(name, int(first), int(last), lowered(meaning)) for meaning, name, first, last in found]
 
 
 def first_layout_part() -> str:
     """Returns the table of the fields of type 1, in the order of the record. A row has the fields of both sides."""
-    fields = {field.name: field for field in sorted(fields_of("Type1") + flags(), key=lambda field: field.first)}
+    fields = {field.name: field for field in sorted(fields_of("Type1") + other_fields(), key=lambda field: field.first)}
     of_right = {f"{name[:-1]}R" for name in fields if name[-1] == "L" and f"{name[:-1]}R" in fields}
     rows = []
     for name, field in fields.items():
@@ -221,7 +213,7 @@ BOUNDS = {"FIELD_IDS": " 0 to 16", "COORDINATE_IDS": " 0 to 3", "ANY_NUMBER": ""
 FRAME_BOUNDS = ["", " in the frame", " 1 to 30"]
 LIMITS = {"MAX_NAMES as u64": "5000", "MAX_RANGES as u64 + 1": "1001", "u64::MAX": "any number"}
 PROTOTYPE = re.compile(
-    r"Helper::(\w+) => row\(\s*(\d+),\s*(\w+(?:\([^)]*\))?),\s*Shape::\w+,\s*(\w+),\s*([^,]+?),?\s*\)"
+    r"Helper::(\w+) => row\(\s*(\d+),\s*(\w+(?:\([^)]*\))?),\s*Group::\w+,\s*(\w+),\s*([^,]+?),?\s*\)"
 )
 
 

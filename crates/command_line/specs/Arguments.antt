@@ -15,16 +15,16 @@ use Rattle.command_line.specs.declared.arguments.subcommand.Subcommand.TheVarian
 use Rattle.command_line.specs.declared.arguments.subcommand.Subcommand.TheVariants.{Verify, Explain, Assemble, Disassemble, Serve}
 
 -- `VALUE`, once
-abbrev pub valued : Text → Rule
-valued name = record (new_rule name) { value_names = 1; required = true; action = Some Set }
+abbrev pub required_value : Text → Rule
+required_value name = record (new_rule name) { value_names = 1; required = true; action = Some Set }
 
 -- `VALUE..`, one or more
 abbrev pub several : Text → Rule
-several name = record (valued name) { range = Some (record { start_inclusive = 1; end_inclusive = usize_max }); action = Some Append }
+several name = record (required_value name) { range = Some (record { start_inclusive = 1; end_inclusive = usize_max }); action = Some Append }
 
 -- `--NAME VALUE`, once
 abbrev pub required : Text → Rule
-required name = record (valued name) { long = Some name }
+required name = record (required_value name) { long = Some name }
 
 -- `--NAME VALUE`, at most once
 abbrev pub optional : Text → Rule
@@ -39,7 +39,7 @@ abbrev pub rule_by_kind : Text → ArgumentKind → Rule
 rule_by_kind name Required = required name
 rule_by_kind name Optional = optional name
 rule_by_kind name Flag = flag name
-rule_by_kind name One = valued name
+rule_by_kind name One = required_value name
 rule_by_kind name Several = several name
 
 abbrev pub rule : DeclaredArgument → Rule
@@ -47,7 +47,7 @@ rule argument = rule_by_kind argument.name.now argument.kind
 
 -- `CODE`
 abbrev pub county : Rule
-county = valued (codes "code")
+county = required_value (codes "code")
 
 -- `CODE..`
 abbrev pub counties : Rule

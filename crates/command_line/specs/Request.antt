@@ -28,23 +28,23 @@ use Rattle.command_line.specs.declared.serve.Serve.{Serve}
 -- select --where TEXT [--filter-lang LANG] [--score COLUMN] --data DIR [--format FORMAT] [--columns NAMES] [--geometry GEOMETRY] CODE..
 pub record IsSelect (rows : List Row) (select : Select) : Type 0 where
   pub filter : first_of (codes "where") rows ≡ Some select.filter.now
-  pub language : language_of rows ≡ Some select.filter_options.language
-  pub score : score_of rows ≡ Some select.filter_options.score
+  pub language : language_of rows ≡ Ok select.filter_options.language
+  pub score : score_of rows ≡ Ok select.filter_options.score
   pub folder : first_of (codes "data") rows ≡ Some select.«data».now
-  pub layer : layer_of rows ≡ Some (layer_parts select.layer)
+  pub layer : layer_of rows ≡ Ok (layer_parts select.layer)
   pub codes : codes_of rows ≡ Some (map (λ code. code.now) select.codes.items)
 
 -- compile --filter FILE [--filter-lang LANG] [--score COLUMN]
 pub record IsCompile (rows : List Row) (compile : Compile) : Type 0 where
   pub filter : file_of (codes "filter") rows ≡ Some compile.filter.now
-  pub language : language_of rows ≡ Some compile.filter_options.language
-  pub score : score_of rows ≡ Some compile.filter_options.score
+  pub language : language_of rows ≡ Ok compile.filter_options.language
+  pub score : score_of rows ≡ Ok compile.filter_options.score
 
 -- run --program FILE --data DIR [--format FORMAT] [--columns NAMES] [--geometry GEOMETRY] CODE
 pub record IsRun (rows : List Row) (run : Run) : Type 0 where
   pub program : first_of (codes "program") rows ≡ Some run.program.now
   pub folder : first_of (codes "data") rows ≡ Some run.«data».now
-  pub layer : layer_of rows ≡ Some (layer_parts run.layer)
+  pub layer : layer_of rows ≡ Ok (layer_parts run.layer)
   pub code : code_of rows ≡ Some run.code.now
 
 -- trace --program FILE --data DIR --line N --limit L CODE

@@ -1,7 +1,7 @@
 //! The arguments of commands, as data.
 ghost use Rattle.std.specs.Prelude.{◌≡◌, false};
 ghost use Rattle.clap.specs.Walk.{rule_of};
-ghost use Rattle.command_line.specs.Arguments.{rule, valued};
+ghost use Rattle.command_line.specs.Arguments.{required_value, rule};
 
 use clap::{Arg, ArgAction};
 use std::alloc::Global;
@@ -75,20 +75,23 @@ impl DeclaredArgument {
         ensures local { result.global ≡ false }
     {
         match self.kind {
-            ArgumentKind::Required => self.valued(alloc).long(self.name),
-            ArgumentKind::Optional => self.valued(alloc).long(self.name).required(false),
+            ArgumentKind::Required => self.required_value(alloc).long(self.name),
+            ArgumentKind::Optional => self.required_value(alloc).long(self.name).required(false),
             ArgumentKind::Flag => Arg::new(alloc, self.name)
                 .long(self.name)
                 .help(self.help)
                 .action(ArgAction::SetTrue),
-            ArgumentKind::One => self.valued(alloc),
-            ArgumentKind::Several => self.valued(alloc).num_args(1..).action(ArgAction::Append),
+            ArgumentKind::One => self.required_value(alloc),
+            ArgumentKind::Several => self
+                .required_value(alloc)
+                .num_args(1..)
+                .action(ArgAction::Append),
         }
     }
 
     /// Returns an argument that has to be given, with one value.
-    fn valued<'a>(self, alloc: Global) -> Arg<'a>
-        ensures rule { rule_of result ≡ valued self.name.now }
+    fn required_value<'a>(self, alloc: Global) -> Arg<'a>
+        ensures rule { rule_of result ≡ required_value self.name.now }
         ensures local { result.global ≡ false }
     {
         Arg::new(alloc, self.name)

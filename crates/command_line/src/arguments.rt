@@ -48,19 +48,20 @@ use crate::fault::ArgumentsFault;
 use crate::serve::Serve;
 use clap::error::ErrorKind;
 use clap::{ArgMatches, Command, Error};
-use commands::{DiagnosticLine, Request};
+use commands::Request;
 use counted_io::Counting;
+use reports::DiagnosticLine;
 use std::alloc::{AllocError, Global};
 pub use subcommand::Subcommand;
 
-/// Reads the arguments, after the program's name, of a command over files.
+/// Reads the arguments, after the program's name, of a command over files. Public for tests of arguments.
 pub fn read_request<'a>(
     alloc: Global,
     arguments: &'a [&'a str],
 ) -> Result<Request<'a>, ArgumentsFault<'a>>
     ensures { ReadsUnlessMemory (IsRequestOf (texts arguments.now)) result }
 {
-    let matches = matched(alloc, arguments)?;
+    let matches = parse(alloc, arguments)?;
     match matches.subcommand() {
         Some((name, matches)) => named_request(alloc, name, matches),
         None => Err(ArgumentsFault::Missing("COMMAND")),
@@ -74,7 +75,7 @@ pub fn read_serve<'a>(
 ) -> Result<Serve<'a>, ArgumentsFault<'a>>
     ensures { ReadsUnlessMemory (IsServeOf (texts arguments.now)) result }
 {
-    let matches = matched(alloc, arguments)?;
+    let matches = parse(alloc, arguments)?;
     match matches.subcommand_matches(Subcommand::Serve.name()) {
         Some(matches) => serve::request(alloc, matches),
         None => Err(ArgumentsFault::Missing("COMMAND")),
@@ -82,23 +83,24 @@ pub fn read_serve<'a>(
 }
 
 /// Matches arguments with those that the commands take.
-fn matched<'a>(
-    alloc: Global,
-    arguments: &'a [&'a str],
-) -> Result<ArgMatches<'a>, ArgumentsFault<'a>>
+fn parse<'a>(alloc: Global, arguments: &'a [&'a str]) -> Result<ArgMatches<'a>, ArgumentsFault<'a>>
     ensures { MatchResult result (AreMatchesOf (texts arguments.now))
         (λ fault. fault ≢ ArgumentsFault.Memory → fault_of program (texts arguments.now) ≢ []) }
 {
     match program_command(alloc)?.try_get_matches_from(arguments) {
         Ok(matches) => Ok(matches),
-        Err(error) => Err(ArgumentsFault::from(echoed(alloc, arguments, error)?)),
+        Err(error) => Err(ArgumentsFault::from(with_escapes(alloc, arguments, error)?)),
     }
 }
 
 /// Returns the error of arguments that are refused by `error`, with the control characters in its text escaped.
 ///
 /// clap puts arguments into its text as they are, so the escaped arguments are parsed once more.
-fn echoed<'a>(alloc: Global, arguments: &[&str], error: Error) -> Result<Error, ArgumentsFault<'a>>
+fn with_escapes<'a>(
+    alloc: Global,
+    arguments: &[&str],
+    error: Error,
+) -> Result<Error, ArgumentsFault<'a>>
     ensures same { kind_of error ≡ usage_kind.OutOfMemory → IfOk result (λ echoed. kind_of echoed ≡ usage_kind.OutOfMemory) }
     ensures memory { IfErr result (λ fault. fault ≡ ArgumentsFault.Memory) }
 {
@@ -107,7 +109,7 @@ fn echoed<'a>(alloc: Global, arguments: &[&str], error: Error) -> Result<Error, 
     }
     let mut words = Vec::new(alloc);
     for argument in arguments {
-        words.push(escaped(alloc, argument)?)?;
+        words.push(escape(alloc, argument)?)?;
     }
     match program_command(alloc)?.try_get_matches_from(words.as_slice()) {
         Ok(_matches) => Ok(error),
@@ -116,7 +118,7 @@ fn echoed<'a>(alloc: Global, arguments: &[&str], error: Error) -> Result<Error, 
 }
 
 /// Returns an argument with its control characters escaped.
-fn escaped<'a>(alloc: Global, argument: &str) -> Result<String, ArgumentsFault<'a>>
+fn escape<'a>(alloc: Global, argument: &str) -> Result<String, ArgumentsFault<'a>>
     ensures { IfErr result (λ fault. fault ≡ ArgumentsFault.Memory) }
 {
     let mut bytes = Counting::new(Vec::new(alloc));

@@ -2,16 +2,23 @@
 ghost use Rattle.std.specs.Prelude.{◌≡◌, ◌≢◌};
 ghost use Rattle.std.specs.IoError.{error_kind};
 ghost use Rattle.std.specs.declared.io.ErrorKind.TheVariants as io_kind;
-ghost use Rattle.commands.specs.Failure.{ReportsMemory};
+ghost use Rattle.commands.specs.Failure.{ReportsMemory, ReportsText};
 ghost use Rattle.clap.specs.Values.{kind_of};
 ghost use Rattle.clap.specs.declared.error.kind.ErrorKind.TheVariants as usage_kind;
 ghost use Rattle.command_line.specs.Fault.{ReportsNotUtf8};
-ghost use Rattle.command_line.specs.declared.fault.ArgumentsFault.TheVariants.{Memory, NotUtf8, Usage};
+ghost use Rattle.command_line.specs.declared.fault.ArgumentsFault.TheVariants.{Filter, Layer, Memory, NotUtf8, Usage};
+ghost use Rattle.filters.specs.OptionsFault as options_fault;
+ghost use Rattle.filters.specs.declared.options_fault.FilterOptionsFault.{FilterOptionsFault};
+ghost use Rattle.layers.specs.LayerFault as layer_fault;
+ghost use Rattle.layers.specs.declared.layer_fault.LayerFault.{LayerFault};
+ghost use Rattle.layers.specs.declared.layer_fault.LayerFault.TheVariants as layer;
 
 use clap::error::ErrorKind as UsageKind;
-use commands::{DiagnosticLine, Failure, OUT_OF_MEMORY, USAGE};
+use commands::{Failure, OUT_OF_MEMORY, USAGE};
 use counted_io::{CountedWrite, write_text};
-use cql2_tokens::near_column;
+use filters::FilterOptionsFault;
+use layers::LayerFault;
+use reports::{DiagnosticLine, write_broken_rule};
 use std::alloc::{AllocError, AllocFailed};
 use std::fmt::Write;
 use std::io::ErrorKind;
@@ -42,20 +49,10 @@ pub enum ArgumentsFault<'a> {
     },
     /// This name isn't 1 to 30 characters.
     Name(&'a str),
-    /// This isn't the name of a language of filters.
-    Language(&'a str),
-    /// This isn't the name of a numeric column.
-    Score(&'a str),
-    /// This isn't the name of a format.
-    Format(&'a str),
-    /// This option isn't for rows.
-    NotOfRows(&'static str),
-    /// This name in a list of columns isn't that of a column.
-    Column(&'a str),
-    /// This name repeats a column of the list.
-    RepeatedColumn(&'a str),
-    /// This isn't the name of a geometry.
-    Geometry(&'a str),
+    /// An option of the filter has a wrong value.
+    Filter(FilterOptionsFault<'a>),
+    /// The options choose no layer.
+    Layer(LayerFault<'a>),
     /// This port isn't 1 to 65535.
     Port(&'a str),
     /// Both a port and any free one are requested.
@@ -89,11 +86,27 @@ impl ArgumentsFault<'_> {
             → ReportsMemory (E.writer errors.old) (E.writer errors.new) }
         ensures not_utf8 { self.now ≡ ArgumentsFault.NotUtf8
             → ReportsNotUtf8 (E.writer errors.old) (E.writer errors.new) }
+        ensures filter { (fault : FilterOptionsFault) → self.now ≡ ArgumentsFault.Filter fault
+            → ReportsText (options_fault.line fault) (E.writer errors.old) (E.writer errors.new) }
+        ensures layer { (fault : LayerFault) → self.now ≡ ArgumentsFault.Layer fault
+            → ReportsText (layer_fault.line fault) (E.writer errors.old) (E.writer errors.new) }
     {
         match self {
             ArgumentsFault::Memory => Failure::Memory.report(errors),
             ArgumentsFault::NotUtf8 => {
                 let _ = write_text(errors, b"error: an argument isn't UTF-8\n");
+            }
+            ArgumentsFault::Port(text) => {
+                let _ = write_broken_rule(errors, "port is 1 to 65535", text);
+            }
+            ArgumentsFault::Host(text) => {
+                let _ = write_broken_rule(errors, "host is an IP address", text);
+            }
+            ArgumentsFault::Filter(fault) => {
+                let _ = fault.write_line(errors);
+            }
+            ArgumentsFault::Layer(fault) => {
+                let _ = fault.write_line(errors);
             }
             _ => {
                 let _ = self.write_report(&mut DiagnosticLine::new(errors));
@@ -101,15 +114,15 @@ impl ArgumentsFault<'_> {
         }
     }
 
-    /// Writes the report, except for `Memory` and `NotUtf8`.
+    /// Writes the report of a fault that has no writer of its own.
     fn write_report<E: CountedWrite>(&self, line: &mut DiagnosticLine<'_, E>) -> fmt::Result {
-        if let Some((rule, value)) = self.broken_rule() {
-            write!(line, "error: {rule}")?;
-            return end_with_value(line, value);
-        }
         match self {
             ArgumentsFault::Usage(error) => write!(line, "{error}"),
             ArgumentsFault::Missing(name) => write!(line, "error: {name} is missing\n"),
+            ArgumentsFault::Code(code) => {
+                write!(line, "error: CODE is five digits")?;
+                end_with_value(line, code)
+            }
             ArgumentsFault::TooManyCodes(count) => {
                 write!(
                     line,
@@ -128,20 +141,6 @@ impl ArgumentsFault<'_> {
                 write!(line, "error: --name is 1 to {NAME_LENGTH} characters")?;
                 end_with_value(line, name)
             }
-            ArgumentsFault::NotOfRows(name) => {
-                write!(line, "error: --{name} needs --format csv or geojsonseq\n")
-            }
-            ArgumentsFault::Column("") => write!(line, "error: --columns has an empty name\n"),
-            ArgumentsFault::Column(name) => {
-                write!(line, "error: --columns has \"")?;
-                line.echo(name)?;
-                end_with_nearest(line, name)
-            }
-            ArgumentsFault::RepeatedColumn(name) => {
-                write!(line, "error: --columns has \"")?;
-                line.echo(name)?;
-                write!(line, "\" twice\n")
-            }
             ArgumentsFault::TwoPorts => {
                 write!(
                     line,
@@ -159,38 +158,11 @@ impl ArgumentsFault<'_> {
     }
 }
 
-impl<'a> ArgumentsFault<'a> {
-    /// Returns the rule for a value and the value that breaks it, if the fault has no other parts.
-    fn broken_rule(&self) -> Option<(&'static str, &'a str)> {
-        match *self {
-            ArgumentsFault::Code(code) => Some(("CODE is five digits", code)),
-            ArgumentsFault::Language(name) => {
-                Some(("--filter-lang is cql2-text or cql2-json", name))
-            }
-            ArgumentsFault::Score(name) => Some(("--score is a column with numbers", name)),
-            ArgumentsFault::Format(name) => Some(("--format is rows, csv or geojsonseq", name)),
-            ArgumentsFault::Geometry(name) => Some(("--geometry is none, line or shape", name)),
-            ArgumentsFault::Port(text) => Some(("--port is 1 to 65535", text)),
-            ArgumentsFault::Host(text) => Some(("--host is an IP address", text)),
-            _ => None,
-        }
-    }
-}
-
 /// Ends a line with the value that was given.
 fn end_with_value<E: CountedWrite>(line: &mut DiagnosticLine<'_, E>, text: &str) -> fmt::Result {
     write!(line, ", and \"")?;
     line.echo(text)?;
     write!(line, "\" isn't\n")
-}
-
-/// Ends a line about a name that is no column, with the name of a column that is near.
-fn end_with_nearest<E: CountedWrite>(line: &mut DiagnosticLine<'_, E>, name: &str) -> fmt::Result {
-    write!(line, "\", which isn't a column")?;
-    if let Some(nearest) = near_column(name.trim().as_bytes()) {
-        write!(line, ", and the nearest is {nearest}")?;
-    }
-    write!(line, "\n")
 }
 
 // The system fails to read the arguments if one isn't UTF-8 or if memory runs out.
@@ -214,6 +186,26 @@ impl From<clap::Error> for ArgumentsFault<'_> {
         match error.kind() {
             UsageKind::OutOfMemory => ArgumentsFault::Memory,
             _ => ArgumentsFault::Usage(error),
+        }
+    }
+}
+
+impl<'a> From<FilterOptionsFault<'a>> for ArgumentsFault<'a> {
+    ghost from_gives = { λ options fault. fault ≡ Filter options };
+
+    fn from(fault: FilterOptionsFault<'a>) -> Self {
+        ArgumentsFault::Filter(fault)
+    }
+}
+
+impl<'a> From<LayerFault<'a>> for ArgumentsFault<'a> {
+    ghost from_gives = { λ of fault. (of ≡ layer.Memory → fault ≡ Memory)
+        × (of ≢ layer.Memory → fault ≡ Layer of) };
+
+    fn from(fault: LayerFault<'a>) -> Self {
+        match fault {
+            LayerFault::Memory => ArgumentsFault::Memory,
+            _ => ArgumentsFault::Layer(fault),
         }
     }
 }

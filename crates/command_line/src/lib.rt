@@ -20,7 +20,6 @@ mod dispatch;
 mod fault;
 mod flags;
 pub mod laws;
-mod layer_options;
 mod options;
 mod serve;
 

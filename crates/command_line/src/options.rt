@@ -1,16 +1,16 @@
 //! The values of arguments that several commands take.
-ghost use Rattle.std.specs.Prelude.{◌≡◌, ◌≢◌, ◌≤◌, ◌⊎◌, IfOk, MatchResult, None, Some, map, unwrap_or, vec_len};
+ghost use Rattle.std.specs.Prelude.{◌≡◌, ◌≢◌, ◌≤◌, ◌⊎◌, IfErr, IfOk, IsErr, MatchResult, None, Ok, Some, map, unwrap_or, vec_len};
 ghost use Rattle.numerals.specs.declared.numeral.TheConstants.{MAX_NUMBER_DIGITS};
 ghost use Rattle.clap.specs.Walk.{first_of};
-ghost use Rattle.cql2_tokens.specs.Name.{column_named as column_of};
-ghost use Rattle.command_line.specs.Values.{code_in, code_of, codes_in, codes_of, file_of, language_of, number_of, numeric, rows_in, score_of};
+ghost use Rattle.layers.specs.LayerParts.{parts_of};
+ghost use Rattle.command_line.specs.Values.{IsFilterFault, IsLayerFault, code_in, code_of, codes_in, codes_of, file_of, language_of, layer_of};
+ghost use Rattle.command_line.specs.Values.{number_of, rows_in, score_of};
 ghost use Rattle.command_line.specs.declared.fault.ArgumentsFault.TheVariants as ArgumentsFault;
 
 use crate::fault::{ArgumentsFault, CODE_LIMIT};
 use clap::ArgMatches;
-use cql2::{Column, NumericColumn};
-use cql2_text::column_named;
-use filters::{FilterLanguage, FilterOptions};
+use filters::FilterOptions;
+use layers::Layer;
 use numerals::{are_digits, decimal_value};
 use std::alloc::Global;
 
@@ -103,54 +103,32 @@ fn five_digits<'a>(code: &'a str) -> Result<&'a str, ArgumentsFault<'a>>
 }
 
 /// Returns the options for compiling a filter.
+#[tactic(auto, using(crate::proofs::ValueLemmas::first_value_in))]
 pub fn filter_options<'a>(
     alloc: Global,
     matches: &ArgMatches<'a>,
 ) -> Result<FilterOptions, ArgumentsFault<'a>>
-    ensures { MatchResult result
-        (λ options. (language_of (rows_in matches.now) ≡ Some options.language) × (score_of (rows_in matches.now) ≡ Some options.score))
-        (λ fault. ((language_of (rows_in matches.now) ≡ None) ⊎ (score_of (rows_in matches.now) ≡ None)) × (fault ≢ ArgumentsFault.Memory)) }
+    ensures value { MatchResult result
+        (λ options. (language_of (rows_in matches.now) ≡ Ok options.language) × (score_of (rows_in matches.now) ≡ Ok options.score))
+        (λ fault. (IsErr (language_of (rows_in matches.now)) ⊎ IsErr (score_of (rows_in matches.now))) × (fault ≢ ArgumentsFault.Memory)) }
+    ensures fault { IfErr result (IsFilterFault (rows_in matches.now)) }
 {
-    Ok(FilterOptions {
-        language: language(matches)?,
-        score: score(matches)?,
-        filter_alloc: alloc,
-    })
+    let language = matches.get_str("filter-lang");
+    let score = matches.get_str("score");
+    Ok(filters::filter_options(alloc, language, score)?)
 }
 
-/// Returns the language of the filter, by default the text encoding of CQL2.
-fn language<'a>(matches: &ArgMatches<'a>) -> Result<FilterLanguage, ArgumentsFault<'a>>
-    ensures { MatchResult result (λ language. language_of (rows_in matches.now) ≡ Some language)
-        (λ fault. (language_of (rows_in matches.now) ≡ None) × (fault ≢ ArgumentsFault.Memory)) }
-{
-    match value_or(matches, "filter-lang", "cql2-text") {
-        "cql2-text" => Ok(FilterLanguage::Text),
-        "cql2-json" => Ok(FilterLanguage::Json),
-        name => Err(ArgumentsFault::Language(name)),
-    }
-}
-
-/// Returns the column of the score, if there is one.
+/// Returns the layer of the segments.
 #[tactic(auto, using(crate::proofs::ValueLemmas::first_value_in))]
-fn score<'a>(matches: &ArgMatches<'a>) -> Result<Option<NumericColumn>, ArgumentsFault<'a>>
-    ensures { MatchResult result (λ score. score_of (rows_in matches.now) ≡ Some score)
-        (λ fault. (score_of (rows_in matches.now) ≡ None) × (fault ≢ ArgumentsFault.Memory)) }
+pub fn layer<'a>(alloc: Global, matches: &ArgMatches<'a>) -> Result<Layer, ArgumentsFault<'a>>
+    ensures value { MatchResult result (λ layer. layer_of (rows_in matches.now) ≡ Ok (parts_of layer))
+        (λ fault. fault ≢ ArgumentsFault.Memory → IsErr (layer_of (rows_in matches.now))) }
+    ensures fault { IfErr result (IsLayerFault (rows_in matches.now)) }
 {
-    match matches.get_str("score") {
-        Some(name) => Ok(Some(numeric_column(name)?)),
-        None => Ok(None),
-    }
-}
-
-/// Returns the column of this name if it holds numbers or a coordinate.
-fn numeric_column<'a>(name: &'a str) -> Result<NumericColumn, ArgumentsFault<'a>>
-    ensures { MatchResult result (λ column. numeric (column_of name.now) ≡ Some column)
-        (λ fault. (numeric (column_of name.now) ≡ None) × (fault ≡ ArgumentsFault.Score name.entry)) }
-{
-    match column_named(name.as_bytes()) {
-        Some(Column::Numeric(column)) => Ok(column),
-        _ => Err(ArgumentsFault::Score(name)),
-    }
+    let format = matches.get_str("format");
+    let columns = matches.get_str("columns");
+    let geometry = matches.get_str("geometry");
+    Ok(layers::layer_named(alloc, format, columns, geometry)?)
 }
 
 /// Returns the value of a required option: a number of 1 to `most_digits` digits.

@@ -34,7 +34,7 @@ use Rattle.commands.proofs.ClassLemmas.{address_status}
 use Rattle.commands.proofs.CarriedLemmas.{fault_unflushed, refused_carried, refusal_not_usage}
 use Rattle.commands.proofs.CountiesLemmas.{read_after, texts}
 use Rattle.named_files.proofs.FileLemmas.{unfailed_both}
-use Rattle.commands.proofs.PieceLemmas.{stopped_further, written_further}
+use Rattle.reports.proofs.PieceLemmas.{stopped_further, written_further}
 use Rattle.commands.proofs.ReadLemmas.{sound}
 
 -- these addresses of a file were read, and this listing remains

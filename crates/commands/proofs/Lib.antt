@@ -3,8 +3,6 @@ mod CompileLemmas
 mod ExplainLemmas
 mod ReadLemmas
 mod CarriedLemmas
-mod PieceLemmas
-mod EscapeLemmas
 mod CountiesLemmas
 mod LayerLemmas
 mod RunLemmas

@@ -25,7 +25,7 @@ use Rattle.counted_io.specs.Writing.{WritesText}
 use Rattle.counted_io.specs.declared.writing.WriteFault.{WriteFault}
 use Rattle.tl_segments.specs.declared.fault.CountyFile as county_file
 use Rattle.named_files.specs.County.{file_name}
-use Rattle.commands.specs.Escape.{escaped}
+use Rattle.reports.specs.Escape.{escaped}
 use Rattle.named_files.specs.Files.{Disk, IsUnfailed}
 use Rattle.named_files.specs.declared.files.FileFault.{FileFault}
 use Rattle.named_files.specs.declared.files.FileFault.TheVariants as fault
@@ -33,8 +33,6 @@ use Rattle.named_files.specs.declared.files.ProgramInputFault.{ProgramInputFault
 use Rattle.named_files.specs.declared.files.ProgramInputFault.TheVariants as program_input
 use Rattle.commands.specs.declared.failure.Failure.{Failure}
 use Rattle.commands.specs.declared.failure.Failure.TheVariants.{Refusal, Memory, Write, File, CountyFile, NotUtf8, NoLine, Filter, Addresses, County, Output}
-use Rattle.commands.specs.declared.failure.Piece.{Piece}
-use Rattle.commands.specs.declared.failure.Piece.TheVariants.{Text, Echo}
 
 -- the exit status for a class of refusals
 abbrev pub class_status : Class → ℕ
@@ -110,11 +108,6 @@ ReportsText text errors errors' = (written : Result (Unit {0}) WriteFault) × Wr
 -- the line was written, with its end of line
 abbrev pub ReportsLine : List ℕ → Writer → Writer → Type 0
 ReportsLine text errors errors' = ReportsText (text ++ 10 ∷ []) errors errors'
-
--- the bytes that report a piece
-abbrev pub reported : Piece → List ℕ
-reported (Text text) = text.now
-reported (Echo text) = escaped text.now
 
 -- the report that memory ran out was written
 abbrev pub ReportsMemory : Writer → Writer → Type 0

@@ -1,4 +1,3 @@
-pub mod Escape
 pub mod Failure
 pub mod Counties
 pub mod Inputs

@@ -8,16 +8,14 @@
 //! stops at its first failed write, which changes nothing else.
 ghost use Rattle.std.specs.Prelude.{◌≡◌, ◌≤◌, [], ◌∷◌, ◌++◌, codes, length};
 ghost use Rattle.std.specs.List.{flat_map};
-ghost use Rattle.counted_io.specs.Writing.{WritesText};
-ghost use Rattle.commands.specs.Escape.{escaped};
 ghost use Rattle.commands.specs.Failure.{IsOfAddresses, IsReason, Reports, ReportsLine, ReportsText, WritesAs, class_status};
-ghost use Rattle.commands.specs.Failure.{file_line, of_county_extract, of_county_file, of_extract, of_file, of_opening, of_program, of_source, reported};
+ghost use Rattle.commands.specs.Failure.{file_line, of_county_extract, of_county_file, of_extract, of_file, of_opening, of_program, of_source};
 ghost use Rattle.commands.specs.Failure.{status};
 ghost use Rattle.commands.specs.declared.failure.Failure.TheVariants.{Memory};
 ghost use Rattle.filters.specs.Failure.{failure_text};
+ghost use Rattle.reports.specs.Escape.{escaped};
+ghost use Rattle.reports.specs.Piece.{reported};
 
-use crate::escape::write_escaped;
-use crate::failure::Piece::{Echo, Text};
 use addresses::AddressFault;
 use arrayvec::ArrayString;
 use bpf_text::{SourceFault, TextFault};
@@ -27,6 +25,8 @@ use filters::FilterFailure;
 use itoa::Buffer;
 use named_files::{CountyFileFault, FileFault, ProgramInputFault, name_end};
 use refusals::{Class, Fault, Refusal};
+use reports::Piece::{Echo, Text};
+use reports::{Piece, write_report};
 use std::alloc::{AllocError, AllocFailed};
 use std::fmt::Write as WriteText;
 use std::io;
@@ -298,34 +298,11 @@ pub fn write<'a, W: CountedWrite>(out: &mut W, text: &[u8]) -> Result<(), Failur
     }
 }
 
-/// A piece of a report.
-#[derive(Clone, Copy)]
-enum Piece<'p> {
-    /// Text that is written as it is.
-    Text(&'p str),
-    /// Text from the user, which is written with its control characters escaped.
-    Echo(&'p str),
-}
-
-/// Writes the pieces in order, up to the first that can't be written completely.
+/// Reports the pieces in order, up to the first that can't be written completely.
 fn write_pieces<E: CountedWrite>(errors: &mut E, pieces: &[Piece<'_>])
     ensures { ReportsText (flat_map reported pieces.now) (E.writer errors.old) (E.writer errors.new) }
 {
-    for piece in pieces {
-        match write_piece(errors, piece) {
-            Ok(()) => {}
-            Err(_) => return,
-        }
-    }
-}
-
-fn write_piece<E: CountedWrite>(errors: &mut E, piece: &Piece<'_>) -> Result<(), WriteFault>
-    ensures { WritesText (reported piece.now) result (E.writer errors.old) (E.writer errors.new) }
-{
-    match piece {
-        Text(text) => write_text(errors, text.as_bytes()),
-        Echo(text) => write_escaped(errors, text),
-    }
+    let _ = write_report(errors, pieces);
 }
 
 /// Reports a line.

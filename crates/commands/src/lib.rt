@@ -4,9 +4,7 @@
 mod assemble;
 mod compile;
 mod counties;
-mod diagnostic_line;
 mod disassemble;
-mod escape;
 mod explain;
 mod failure;
 mod flushing;
@@ -22,7 +20,6 @@ mod verify;
 pub use assemble::Assemble;
 pub use compile::Compile;
 pub use counties::load_counties;
-pub use diagnostic_line::DiagnosticLine;
 pub use disassemble::Disassemble;
 pub use explain::Explain;
 pub use failure::{Failure, OUT_OF_MEMORY, UNUSABLE, USAGE};

@@ -12,12 +12,13 @@ mod listening;
 mod log_output;
 
 use command_line::Serve;
-use commands::{DiagnosticLine, Failure, UNUSABLE, load_counties};
+use commands::{Failure, UNUSABLE, load_counties};
 use counted_io::{CountedWrite, Counting};
 use http_service::{Logged, WallClock, read_second};
 use listening::{ListenFault, Network, serve_address};
 use log_output::{LogHost, LoggedNetwork};
 use named_files::{Files, SystemFiles};
+use reports::DiagnosticLine;
 use std::alloc::Global;
 use std::fmt::Write as WriteText;
 use std::io;

@@ -1,2 +1,4 @@
 pub mod Failure
 pub mod Filter
+pub mod OptionsFault
+pub mod Options

@@ -141,7 +141,7 @@ impl FilterFailure {
         ensures { IfOk result (λ text. text.items ≡ failure_text self.now) }
     {
         let line = self.line();
-        joined(alloc, &self.pieces(line.as_bytes()))
+        concat(alloc, &self.pieces(line.as_bytes()))
     }
 
     /// Returns the pieces of [`FilterFailure::text`], in order, some of them empty. `line` is [`FilterFailure::line`].
@@ -178,7 +178,7 @@ impl<T: Drop> From<AllocFailed<T>> for FilterFailure {
 }
 
 /// Appends pieces to each other.
-fn joined<A: Allocator>(alloc: A, pieces: &[&[u8]]) -> Result<Vec<u8, A>, AllocError>
+fn concat<A: Allocator>(alloc: A, pieces: &[&[u8]]) -> Result<Vec<u8, A>, AllocError>
     ensures { IfOk result (λ text. text.items ≡ flat_map (λ piece. piece.now) pieces.now) }
 {
     let mut text = Vec::new(alloc);

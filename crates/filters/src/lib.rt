@@ -3,6 +3,10 @@
 
 mod failure;
 mod filter;
+mod options;
+mod options_fault;
 
 pub use failure::{FilterFailure, PIECE_COUNT};
 pub use filter::{FilterLanguage, FilterOptions};
+pub use options::filter_options;
+pub use options_fault::FilterOptionsFault;

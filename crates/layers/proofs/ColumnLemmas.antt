@@ -11,18 +11,16 @@ use Rattle.std.specs.Borrow.{Bor}
 use Rattle.std.specs.Cmp.{IsEquivalence}
 use Rattle.std.specs.List.{IsDistinct, list_any}
 use Rattle.std.specs.Set.{is_member}
+use Rattle.cql2.specs.Column.{column_name}
 use Rattle.cql2.specs.declared.column.Column.{Column as AColumn}
 use Rattle.cql2.specs.declared.column.Column.TheVariants.{Numeric, Text}
-use Rattle.cql2.specs.declared.column.CoordinateColumn.TheVariants.{Frlong, Frlat, Tolong, Tolat}
-use Rattle.cql2.specs.declared.column.NumberColumn.TheVariants.{Tlid, Fraddl, Toaddl, Fraddr, Toaddr, Zipl, Zipr, Statel, Stater}
-use Rattle.cql2.specs.declared.column.NumberColumn.TheVariants.{Countyl, Countyr, Placel, Placer, Tractl, Tractr, Blockl, Blockr}
+use Rattle.cql2.specs.declared.column.CoordinateColumn.TheVariants.{Frlong}
+use Rattle.cql2.specs.declared.column.NumberColumn.TheVariants.{Tlid}
 use Rattle.cql2.specs.declared.column.NumericColumn.TheVariants.{Number, Coordinate}
-use Rattle.cql2.specs.declared.column.TextColumn.TheVariants.{Rt, Version, Side1, Source, Fedirp, Fename, Fetype, Fedirs, Cfcc}
-use Rattle.cql2.specs.declared.column.TextColumn.TheVariants.{FraddlText, ToaddlText, FraddrText, ToaddrText, Friaddl, Toiaddl, Friaddr, Toiaddr}
-use Rattle.cql2.specs.declared.column.TextColumn.TheVariants.{Cousubl, Cousubr}
-use Rattle.cql2_tokens.specs.Name.{column_name, column_named}
+use Rattle.cql2.specs.declared.column.TextColumn.TheVariants.{Rt}
+use Rattle.cql2.specs.declared.column.TheConstants.{COLUMNS, MAX_COLUMNS}
+use Rattle.cql2_tokens.specs.Name.{column_named}
 use Rattle.layers.specs.Columns.{columns_after, columns_named, is_same, unless_fault, with_column}
-use Rattle.layers.specs.declared.columns.TheConstants.{COLUMNS}
 use Rattle.layers.specs.declared.columns_fault.ColumnsFault.{ColumnsFault}
 
 same_equiv : IsEquivalence is_same
@@ -37,58 +35,22 @@ same_equiv = record {
 pub all_columns : (column : AColumn) → is_member is_same COLUMNS column ≡ true
 unfolding is_same
 all_columns (Numeric (Number Tlid)) = refl
-all_columns (Numeric (Number Fraddl)) = refl
-all_columns (Numeric (Number Toaddl)) = refl
-all_columns (Numeric (Number Fraddr)) = refl
-all_columns (Numeric (Number Toaddr)) = refl
-all_columns (Numeric (Number Zipl)) = refl
-all_columns (Numeric (Number Zipr)) = refl
-all_columns (Numeric (Number Statel)) = refl
-all_columns (Numeric (Number Stater)) = refl
-all_columns (Numeric (Number Countyl)) = refl
-all_columns (Numeric (Number Countyr)) = refl
-all_columns (Numeric (Number Placel)) = refl
-all_columns (Numeric (Number Placer)) = refl
-all_columns (Numeric (Number Tractl)) = refl
-all_columns (Numeric (Number Tractr)) = refl
-all_columns (Numeric (Number Blockl)) = refl
-all_columns (Numeric (Number Blockr)) = refl
 all_columns (Numeric (Coordinate Frlong)) = refl
-all_columns (Numeric (Coordinate Frlat)) = refl
-all_columns (Numeric (Coordinate Tolong)) = refl
-all_columns (Numeric (Coordinate Tolat)) = refl
 all_columns (Text Rt) = refl
-all_columns (Text Version) = refl
-all_columns (Text Side1) = refl
-all_columns (Text Source) = refl
-all_columns (Text Fedirp) = refl
-all_columns (Text Fename) = refl
-all_columns (Text Fetype) = refl
-all_columns (Text Fedirs) = refl
-all_columns (Text Cfcc) = refl
-all_columns (Text FraddlText) = refl
-all_columns (Text ToaddlText) = refl
-all_columns (Text FraddrText) = refl
-all_columns (Text ToaddrText) = refl
-all_columns (Text Friaddl) = refl
-all_columns (Text Toiaddl) = refl
-all_columns (Text Friaddr) = refl
-all_columns (Text Toiaddr) = refl
-all_columns (Text Cousubl) = refl
-all_columns (Text Cousubr) = refl
+all_columns column = refl
 
 -- one more column, which is new
 pub still_distinct : (before : List AColumn) (column : AColumn) → IsDistinct is_same before → list_any (is_same column) before ≡ false
     → IsDistinct is_same (before ++ column ∷ [])
 still_distinct before column distinct new = IsDistinct-push same_equiv before column distinct new
 
--- there are no more columns than 40
-pub few_columns : (columns : List AColumn) → IsDistinct is_same columns → length columns ≤ 40
+-- a list has each column once at most
+pub few_columns : (columns : List AColumn) → IsDistinct is_same columns → length columns ≤ MAX_COLUMNS
 few_columns columns distinct = length-le_from_is_member same_equiv columns COLUMNS distinct (λ column among. all_columns column)
 
 -- there is room for a new column
-pub room : (columns : List AColumn) (count : ℕ) (column : AColumn) → length columns ≡ 40 → count ≤ 40 → IsDistinct is_same (take count columns)
-    → list_any (is_same column) (take count columns) ≡ false → count < 40
+pub room : (columns : List AColumn) (count : ℕ) (column : AColumn) → length columns ≡ MAX_COLUMNS → count ≤ MAX_COLUMNS → IsDistinct is_same (take count columns)
+    → list_any (is_same column) (take count columns) ≡ false → count < MAX_COLUMNS
 room columns count column long few distinct new =
     omega (
       arith,
@@ -98,7 +60,7 @@ room columns count column long few distinct new =
     )
 
 -- the columns with one more put after them
-pub put_column : (columns : List AColumn) (count : ℕ) (column : AColumn) → length columns ≡ 40 → count < 40
+pub put_column : (columns : List AColumn) (count : ℕ) (column : AColumn) → length columns ≡ MAX_COLUMNS → count < MAX_COLUMNS
     → take (count + 1) (set columns count column) ≡ take count columns ++ column ∷ []
 put_column columns count column long inside = take-set_at columns count (count + 1) column refl (omega arith)
 

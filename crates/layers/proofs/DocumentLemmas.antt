@@ -9,7 +9,7 @@ use Rattle.cql2.specs.declared.column.NumericColumn.TheVariants.{Number, Coordin
 use Rattle.numerals.specs.Degrees.{degrees}
 use Rattle.layers.proofs.NumberLemmas.{IsNumber-degrees, coordinate_small}
 use Rattle.layers.specs.Feature.{IsWritable, feature, feature_text, geometry_value, positions, properties, property}
-use Rattle.layers.specs.Geometry.{AreEnds, between, ends_for, ends_of, line_of, line_with, point_at, points_of}
+use Rattle.layers.specs.Geometry.{AreEnds, ends_for, ends_of, inner_parts, line_of, line_with, point_at, points_of}
 use Rattle.layers.specs.Layout.{LayoutParts, SelectedParts}
 use Rattle.layers.specs.Value.{ValueParts, missing, text, number, number_value, text_value, value_of}
 use Rattle.layers.specs.declared.ends.Ends.{Ends}
@@ -91,7 +91,8 @@ points-of_shape (part ∷ shape) all =
     let ArePoints : ShapePartParts → Type 0 = λ part. All IsPoint part.points in
     All-append IsPoint part.points (points_of shape) (All-head ArePoints part shape all) (points-of_shape shape (All-tail ArePoints part shape all))
 
-points-between : (which : Geometry) (shape : List ShapePartParts) → All (λ part. All IsPoint part.points) shape → All IsPoint (points_of (between which shape))
+points-between : (which : Geometry) (shape : List ShapePartParts) → All (λ part. All IsPoint part.points) shape
+    → All IsPoint (points_of (inner_parts which shape))
 points-between geometry.None shape all = All-nil IsPoint
 points-between geometry.Line shape all = All-nil IsPoint
 points-between geometry.Shape shape all = points-of_shape shape all
@@ -131,7 +132,7 @@ line_with-small (Some ends) points small all =
 points-of_line : (which : Geometry) (line : List ℕ) (shape : List ShapePartParts) → All (λ part. All IsPoint part.points) shape
     → IfSome (line_of which line shape) (All IsPoint)
 points-of_line which line shape all =
-    line_with-small (ends_for which line) (points_of (between which shape)) (ends_for-small which line) (points-between which shape all)
+    line_with-small (ends_for which line) (points_of (inner_parts which shape)) (ends_for-small which line) (points-between which shape all)
 
 pub document_of_feature : (layout : LayoutParts) (one : SelectedParts) → IsWritable one
     → document (feature_text layout one.score one.segment one.shape) ≡ Some (feature layout one.score one.segment one.shape)

@@ -3,12 +3,12 @@ use Rattle.std.proofs.Common.{◌≡◌, ℕ, true, false, List, [], ◌∷◌, 
 use Rattle.std.proofs.lemmas.Grind.{flat_map-append}
 use Rattle.std.proofs.lemmas.List.{append-nil}
 use Rattle.std.specs.List.{flat_map}
+use Rattle.cql2.specs.Column.{column_name}
 use Rattle.cql2.specs.declared.column.Column.{Column as AColumn}
-use Rattle.cql2_tokens.specs.Name.{column_name}
 use Rattle.numerals.specs.Degrees.{degrees}
 use Rattle.layers.proofs.NameLemmas.{escape-column_name}
 use Rattle.layers.specs.Feature.{end_without_line, feature_line, feature_start, geometry_value, member_text, positions, properties, property, value_text}
-use Rattle.layers.specs.Geometry.{between, ends_for, line_with, points_of}
+use Rattle.layers.specs.Geometry.{ends_for, inner_parts, line_with, points_of}
 use Rattle.layers.specs.Layout.{LayoutParts}
 use Rattle.layers.specs.Line.{further_points, line_start, point_text, rest_text, start_text}
 use Rattle.layers.specs.Value.{ValueParts, missing, text, number, value_of}
@@ -128,7 +128,8 @@ module _ (shape : List ShapePartParts) (ends : Ends) where
       ∙ joined-line (line_start GeoJson) start parts end
 
 module _ (layout : LayoutParts) (score : ℕ) (segment : SegmentParts) (shape : List ShapePartParts) where
-  feature_is : (line : Option (List Point)) → option_map (line_with (points_of (between layout.geometry shape))) (ends_for layout.geometry segment.bytes) ≡ line
+  feature_is : (line : Option (List Point))
+      → option_map (line_with (points_of (inner_parts layout.geometry shape))) (ends_for layout.geometry segment.bytes) ≡ line
       → feature_start score layout.columns segment.bytes ++ (125 ∷ print_from true (geometry_tokens (geometry_value line)) ++ 10 ∷ [])
       ≡ feature_line layout score segment shape
   feature_is line is =
@@ -140,14 +141,14 @@ module _ (layout : LayoutParts) (score : ℕ) (segment : SegmentParts) (shape : 
       → feature_start score layout.columns segment.bytes ++ end_without_line ≡ feature_line layout score segment shape
   feature_without_line none =
       ap (λ text. feature_start score layout.columns segment.bytes ++ text) (sym print-null)
-      ∙ feature_is None (ap (option_map (line_with (points_of (between layout.geometry shape)))) none)
+      ∙ feature_is None (ap (option_map (line_with (points_of (inner_parts layout.geometry shape)))) none)
 
   pub feature_with_line : (ends : Ends) → ends_for layout.geometry segment.bytes ≡ Some ends
-      → (feature_start score layout.columns segment.bytes ++ start_text GeoJson ends.start) ++ rest_text GeoJson (between layout.geometry shape) ends.end
+      → (feature_start score layout.columns segment.bytes ++ start_text GeoJson ends.start) ++ rest_text GeoJson (inner_parts layout.geometry shape) ends.end
       ≡ feature_line layout score segment shape
   feature_with_line ends is =
       let before = feature_start score layout.columns segment.bytes in
-      let inner = between layout.geometry shape in
+      let inner = inner_parts layout.geometry shape in
       append_assoc before (start_text GeoJson ends.start) (rest_text GeoJson inner ends.end)
       ∙ ap (λ text. before ++ text) (sym (print-line inner ends))
       ∙ feature_is (Some (line_with (points_of inner) ends)) (ap (option_map (line_with (points_of inner))) is)

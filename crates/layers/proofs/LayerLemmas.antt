@@ -10,7 +10,7 @@ use Rattle.extract.specs.declared.fault.ExtractFault.{ExtractFault}
 use Rattle.layers.proofs.FeatureLemmas.{feature_with_line, feature_without_line}
 use Rattle.layers.proofs.RowLemmas.{row_with_line, row_without_line}
 use Rattle.layers.specs.FeatureWriter.{end_without_line, format_of, layer_in, parts_in, start_of}
-use Rattle.layers.specs.Geometry.{between, ends_for}
+use Rattle.layers.specs.Geometry.{ends_for, inner_parts}
 use Rattle.layers.specs.Layer.{LayerParts, Rows, Table, Features, layer_format, layer_text}
 use Rattle.layers.specs.Layout.{LayoutParts}
 use Rattle.layers.specs.Line.{rest_text, start_text}
@@ -38,7 +38,8 @@ of_record (Features layout) shapes score segment other same =
 
 pub with_line : (notation : Notation) (layout : LayoutParts) → 0 < length layout.columns → (score : ℕ) (segment : SegmentParts)
     (shape : List ShapePartParts) (ends : Ends) → ends_for layout.geometry segment.bytes ≡ Some ends
-    → (start_of notation score layout.columns segment.bytes ++ start_text notation ends.start) ++ rest_text notation (between layout.geometry shape) ends.end
+    → (start_of notation score layout.columns segment.bytes ++ start_text notation ends.start)
+    ++ rest_text notation (inner_parts layout.geometry shape) ends.end
     ≡ layer_text (layer_in notation layout) score segment shape
 with_line WellKnownText layout some score segment shape ends found = row_with_line layout some score segment shape ends found
 with_line GeoJson layout some score segment shape ends found = feature_with_line layout score segment shape ends found

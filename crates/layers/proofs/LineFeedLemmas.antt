@@ -10,7 +10,7 @@ use Rattle.cql2.specs.declared.column.Column.{Column as AColumn}
 use Rattle.cql2.specs.declared.column.Column.TheVariants.{Numeric, Text}
 use Rattle.cql2.specs.declared.column.NumberColumn.TheVariants.{Tlid}
 use Rattle.cql2.specs.declared.column.NumericColumn.TheVariants.{Number, Coordinate}
-use Rattle.cql2_tokens.specs.Name.{column_name}
+use Rattle.cql2.specs.Column.{column_name}
 use Rattle.numerals.specs.Degrees.{degrees}
 use Rattle.layers.proofs.DigitLemmas.{passes-append, passes-decimal, passes-degrees}
 use Rattle.layers.proofs.FeatureLemmas.{geometry_tokens, print-feature, print-first}

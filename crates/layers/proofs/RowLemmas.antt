@@ -4,14 +4,14 @@ use Rattle.std.proofs.lemmas.Bool.{and_parts, ne_eqb}
 use Rattle.std.proofs.lemmas.Grind.{flat_map-append}
 use Rattle.std.proofs.lemmas.List.{append-nil, length-map}
 use Rattle.std.specs.List.{flat_map, join_with_byte, list_all}
+use Rattle.cql2.specs.Column.{column_name}
 use Rattle.cql2.specs.declared.column.Column.{Column as AColumn}
-use Rattle.cql2_tokens.specs.Name.{column_name}
 use Rattle.csv.specs.Writing.{default_writer, escaped, field_text, fields_text, is_blank, needs_byte, needs_quotes, row_body, row_text}
 use Rattle.numerals.specs.Degrees.{degrees}
 use Rattle.layers.proofs.CellLemmas.{fields_text-append}
 use Rattle.layers.proofs.DigitLemmas.{passes-append, passes-degrees}
 use Rattle.layers.specs.CsvTable.{cell_of, columns_text, csv_row, end_of_header, end_without_line, header_text, if_wanted, line_cell, line_string, names_text}
-use Rattle.layers.specs.Geometry.{between, ends_for, line_with, points_of}
+use Rattle.layers.specs.Geometry.{ends_for, inner_parts, line_with, points_of}
 use Rattle.layers.specs.Layout.{LayoutParts}
 use Rattle.layers.specs.Line.{further_points, point_text, rest_text, start_text}
 use Rattle.layers.specs.Value.{value_of}
@@ -152,7 +152,8 @@ module _ (table : LayoutParts) (some : 0 < length table.columns) (score : ℕ) (
   abbrev cell : AColumn → List ℕ
   cell column = cell_of (value_of column segment.bytes)
 
-  row_is : (line : Option (List Point)) → option_map (line_with (points_of (between table.geometry shape))) (ends_for table.geometry segment.bytes) ≡ line
+  row_is : (line : Option (List Point))
+      → option_map (line_with (points_of (inner_parts table.geometry shape))) (ends_for table.geometry segment.bytes) ≡ line
       → columns_text score table.columns segment.bytes ++ (fields_text default_writer (if_wanted table.geometry (line_cell line)) ++ 10 ∷ [])
       ≡ csv_row table score segment shape
   row_is line is =
@@ -163,14 +164,15 @@ module _ (table : LayoutParts) (some : 0 < length table.columns) (score : ℕ) (
       → columns_text score table.columns segment.bytes ++ end_without_line table.geometry ≡ csv_row table score segment shape
   row_without_line none =
       ap (λ text. columns_text score table.columns segment.bytes ++ text) (sym (end_without_line-is table.geometry))
-      ∙ row_is None (ap (option_map (line_with (points_of (between table.geometry shape)))) none)
+      ∙ row_is None (ap (option_map (line_with (points_of (inner_parts table.geometry shape)))) none)
 
   pub row_with_line : (ends : Ends) → ends_for table.geometry segment.bytes ≡ Some ends
-      → (columns_text score table.columns segment.bytes ++ start_text WellKnownText ends.start) ++ rest_text WellKnownText (between table.geometry shape) ends.end
+      → (columns_text score table.columns segment.bytes ++ start_text WellKnownText ends.start)
+      ++ rest_text WellKnownText (inner_parts table.geometry shape) ends.end
       ≡ csv_row table score segment shape
   row_with_line ends is =
       let before = columns_text score table.columns segment.bytes in
-      let inner = between table.geometry shape in
+      let inner = inner_parts table.geometry shape in
       let line = line_string (line_with (points_of inner) ends) in
       append_assoc before (start_text WellKnownText ends.start) (rest_text WellKnownText inner ends.end)
       ∙ ap (λ text. before ++ text) (sym (line_cell-is inner ends)

@@ -1,8 +1,8 @@
 -- A table in CSV (RFC 4180) with a header: the score, the columns, and the geometry in Well-Known Text (OGC 06-103r4, section 7).
 use Rattle.std.specs.Prelude.{ℕ, List, [], ◌∷◌, ◌++◌, map, codes, decimal, Option, Some, None}
 use Rattle.std.specs.List.{flat_map, join_with_byte}
+use Rattle.cql2.specs.Column.{column_name}
 use Rattle.cql2.specs.declared.column.Column.{Column as AColumn}
-use Rattle.cql2_tokens.specs.Name.{column_name}
 use Rattle.csv.specs.Writing.{default_writer, row_body, row_text}
 use Rattle.layers.specs.Geometry.{line_of}
 use Rattle.layers.specs.Layout.{LayoutParts, SelectedParts}

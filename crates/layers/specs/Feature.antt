@@ -1,8 +1,8 @@
 -- Lines of GeoJSON: each is a feature (RFC 7946, section 3.2), as a JSON text (RFC 8259) that is terminated by LF.
 use Rattle.std.specs.Prelude.{ℕ, ◌^◌, ◌<◌, List, All, [], ◌∷◌, ◌++◌, codes, decimal, Option, Some, None}
 use Rattle.std.specs.List.{flat_map}
+use Rattle.cql2.specs.Column.{column_name}
 use Rattle.cql2.specs.declared.column.Column.{Column as AColumn}
-use Rattle.cql2_tokens.specs.Name.{column_name}
 use Rattle.numerals.specs.Degrees.{degrees}
 use Rattle.layers.specs.Geometry.{line_of}
 use Rattle.layers.specs.Layout.{LayoutParts, SelectedParts}

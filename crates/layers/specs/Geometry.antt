@@ -32,10 +32,10 @@ pub record AreEnds (ends : Ends) : Type 0 where
 abbrev pub points_of : List ShapePartParts → List Point
 points_of shape = flat_map (λ part. part.points) shape
 
-abbrev pub between : Geometry → List ShapePartParts → List ShapePartParts
-between geometry.None shape = []
-between geometry.Line shape = []
-between geometry.Shape shape = shape
+abbrev pub inner_parts : Geometry → List ShapePartParts → List ShapePartParts
+inner_parts geometry.None shape = []
+inner_parts geometry.Line shape = []
+inner_parts geometry.Shape shape = shape
 
 -- from the start to the end
 abbrev pub line_with : List Point → Ends → List Point
@@ -49,4 +49,4 @@ ends_for geometry.Shape line = ends_of line
 
 -- the points of the line, if one is wanted and both ends have coordinates
 abbrev pub line_of : Geometry → List ℕ → List ShapePartParts → Option (List Point)
-line_of geometry line shape = option_map (line_with (points_of (between geometry shape))) (ends_for geometry line)
+line_of geometry line shape = option_map (line_with (points_of (inner_parts geometry shape))) (ends_for geometry line)

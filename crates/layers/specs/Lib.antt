@@ -7,6 +7,8 @@ pub mod CsvTable
 pub mod Feature
 pub mod Layer
 pub mod LayerParts
+pub mod LayerFault
+pub mod Names
 pub mod FeatureWriter
 pub mod Counties
 pub mod Writing

@@ -1,11 +1,11 @@
 -- The value of a column in a record of type 1 (TIGER/Line 2006).
 use Rattle.std.specs.Prelude.{ℕ, List, [], ◌∷◌, Option, Some, None, option_map, decimal, encode_utf8_all}
+use Rattle.cql2.specs.Column.{places_of}
 use Rattle.cql2.specs.declared.column.Column.{Column as AColumn}
 use Rattle.cql2.specs.declared.column.Column.TheVariants.{Numeric, Text}
 use Rattle.cql2.specs.declared.column.NumberColumn.TheVariants.{Tlid}
 use Rattle.cql2.specs.declared.column.NumericColumn.TheVariants.{Number, Coordinate}
 use Rattle.numerals.specs.Degrees.{degrees}
-use Rattle.layers.specs.Columns.{places_of}
 use Rattle.layers.specs.declared.value.CellValue.{CellValue}
 use Rattle.layers.specs.declared.value.CellValue.TheVariants as value
 use Rattle.tl_fields.specs.Coordinate.{coordinate_of}

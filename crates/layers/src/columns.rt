@@ -1,67 +1,22 @@
 //! The columns of a table.
 ghost use Rattle.std.specs.Prelude.{◌≡◌, ◌+◌, ◌<◌, ◌≤◌, [], ◌∷◌, ◌++◌, false, length, map, IfOk, MatchResult, Ok, Err};
 ghost use Rattle.std.specs.List.{list_any};
-ghost use Rattle.layers.specs.Columns.{columns_named, is_same, places_of, usual_columns, with_column};
+ghost use Rattle.cql2.specs.Column.{places_of};
+ghost use Rattle.layers.specs.Columns.{columns_named, is_same, usual_columns, with_column};
 ghost use Rattle.tl_records.specs.Layout.{IsWithin};
 
 use crate::columns_fault::ColumnsFault;
-use cql2::{Column, CoordinateColumn, NumberColumn, NumericColumn, TextColumn};
+use cql2::{COLUMNS, Column, MAX_COLUMNS};
 use cql2_tokens::{column_name, column_named};
 use std::marker::Model;
 use tl_records::{Places, RECORD_LENGTH};
 
-/// The number of columns that a filter can name.
-pub const MAX_COLUMNS: usize = 40;
-
+// The last four columns repeat a field.
 /// The number of usual columns: those of a table whose columns are not named.
-const USUAL_COUNT: usize = 36;
+const USUAL_COUNT: usize = MAX_COLUMNS - 4;
 
 /// The width of the widest field, FENAME.
 pub(crate) const MAX_FIELD_LENGTH: usize = 30;
-
-/// All columns that a filter can name: first the usual ones, one for each field, in the order of the record, and then those that repeat a field.
-pub const COLUMNS: [Column; MAX_COLUMNS] = [
-    Column::Text(TextColumn::Rt),
-    Column::Text(TextColumn::Version),
-    Column::Numeric(NumericColumn::Number(NumberColumn::Tlid)),
-    Column::Text(TextColumn::Side1),
-    Column::Text(TextColumn::Source),
-    Column::Text(TextColumn::Fedirp),
-    Column::Text(TextColumn::Fename),
-    Column::Text(TextColumn::Fetype),
-    Column::Text(TextColumn::Fedirs),
-    Column::Text(TextColumn::Cfcc),
-    Column::Numeric(NumericColumn::Number(NumberColumn::Fraddl)),
-    Column::Numeric(NumericColumn::Number(NumberColumn::Toaddl)),
-    Column::Numeric(NumericColumn::Number(NumberColumn::Fraddr)),
-    Column::Numeric(NumericColumn::Number(NumberColumn::Toaddr)),
-    Column::Text(TextColumn::Friaddl),
-    Column::Text(TextColumn::Toiaddl),
-    Column::Text(TextColumn::Friaddr),
-    Column::Text(TextColumn::Toiaddr),
-    Column::Numeric(NumericColumn::Number(NumberColumn::Zipl)),
-    Column::Numeric(NumericColumn::Number(NumberColumn::Zipr)),
-    Column::Numeric(NumericColumn::Number(NumberColumn::Statel)),
-    Column::Numeric(NumericColumn::Number(NumberColumn::Stater)),
-    Column::Numeric(NumericColumn::Number(NumberColumn::Countyl)),
-    Column::Numeric(NumericColumn::Number(NumberColumn::Countyr)),
-    Column::Text(TextColumn::Cousubl),
-    Column::Text(TextColumn::Cousubr),
-    Column::Numeric(NumericColumn::Number(NumberColumn::Placel)),
-    Column::Numeric(NumericColumn::Number(NumberColumn::Placer)),
-    Column::Numeric(NumericColumn::Number(NumberColumn::Tractl)),
-    Column::Numeric(NumericColumn::Number(NumberColumn::Tractr)),
-    Column::Numeric(NumericColumn::Number(NumberColumn::Blockl)),
-    Column::Numeric(NumericColumn::Number(NumberColumn::Blockr)),
-    Column::Numeric(NumericColumn::Coordinate(CoordinateColumn::Frlong)),
-    Column::Numeric(NumericColumn::Coordinate(CoordinateColumn::Frlat)),
-    Column::Numeric(NumericColumn::Coordinate(CoordinateColumn::Tolong)),
-    Column::Numeric(NumericColumn::Coordinate(CoordinateColumn::Tolat)),
-    Column::Text(TextColumn::FraddlText),
-    Column::Text(TextColumn::ToaddlText),
-    Column::Text(TextColumn::FraddrText),
-    Column::Text(TextColumn::ToaddrText),
-];
 
 /// The columns of a table, at least one. Contracts see them as a list.
 #[derive(Drop)]
@@ -74,12 +29,13 @@ pub struct Columns {
 impl Model for Columns {
     ghost use Rattle.std.specs.Prelude.{◌<◌, ◌≤◌, List, take};
     ghost use Rattle.cql2.specs.declared.column.Column.{Column};
+    ghost use Rattle.cql2.specs.declared.column.TheConstants.{MAX_COLUMNS};
 
     ghost Value = { List Column };
 
     ghost view = { λ columns. take columns.count columns.columns };
 
-    ghost invariant = { λ columns. (0 < columns.count) × (columns.count ≤ 40) };
+    ghost invariant = { λ columns. (0 < columns.count) × (columns.count ≤ MAX_COLUMNS) };
 }
 
 impl Columns {
@@ -161,15 +117,11 @@ fn is_same(column: Column, other: Column) -> bool
 }
 
 /// Returns the positions of a column's fields.
-#[tactic(auto, using(crate::proofs::PlaceLemmas::number_within, crate::proofs::PlaceLemmas::coordinate_within, crate::proofs::PlaceLemmas::text_within))]
+#[tactic(auto, using(crate::proofs::PlaceLemmas::places_within))]
 pub(crate) fn places_of(column: Column) -> Places
     ensures value { result ≡ places_of column }
     ensures within { IsWithin result RECORD_LENGTH }
     ensures narrow { result.1 + 1 ≤ result.0 + MAX_FIELD_LENGTH }
 {
-    match column {
-        Column::Numeric(NumericColumn::Number(column)) => column.places(),
-        Column::Numeric(NumericColumn::Coordinate(column)) => column.places(),
-        Column::Text(column) => column.places(),
-    }
+    column.places()
 }

@@ -6,12 +6,12 @@ ghost use Rattle.layers.specs.CsvTable.{cell_of, columns_text, end_of_header, en
 ghost use Rattle.layers.specs.Value.{parts_of};
 
 use crate::cell::push_cell;
-use crate::columns::{Columns, MAX_COLUMNS};
+use crate::columns::Columns;
 use crate::geometry::Geometry;
 use crate::text::{MAX_PIECE_LENGTH, MAX_ROW_LENGTH, RowPiece, push};
 use crate::value::{CellValue, value_of};
 use counted_io::{CountedWrite, WriteFault, write_text};
-use cql2::Column;
+use cql2::{Column, MAX_COLUMNS};
 use cql2_tokens::column_name;
 use itoa::Buffer;
 use tl_records::RECORD_LENGTH;

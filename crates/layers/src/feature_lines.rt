@@ -3,11 +3,10 @@ ghost use Rattle.std.specs.Prelude.{◌≡◌, ◌+◌, ◌≤◌, [], ◌++◌,
 ghost use Rattle.layers.specs.Feature.{end_without_line, feature_start, member_text, value_text};
 ghost use Rattle.layers.specs.Value.{parts_of};
 
-use crate::columns::MAX_COLUMNS;
 use crate::string::push_string;
 use crate::text::{MAX_COLUMN_LENGTH, MAX_PIECE_LENGTH, MAX_ROW_LENGTH, RowPiece, push};
 use crate::value::{CellValue, value_of};
-use cql2::Column;
+use cql2::{Column, MAX_COLUMNS};
 use cql2_tokens::column_name;
 use itoa::Buffer;
 use tl_records::RECORD_LENGTH;

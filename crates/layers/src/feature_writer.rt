@@ -5,14 +5,14 @@ ghost use Rattle.layers.specs.Layer.{Rows, shape_in};
 ghost use Rattle.layers.specs.LayerParts.{parts_of};
 ghost use Rattle.tl_segments.specs.Shapes.{table_of};
 
-use crate::columns::{Columns, MAX_COLUMNS};
+use crate::columns::Columns;
 use crate::geometry::Geometry;
 use crate::layer::{Layer, TableOptions};
 use crate::line::{Notation, write_line};
 use crate::text::{MAX_ROW_LENGTH, RowPiece, push};
 use crate::{csv_table, feature_lines};
 use counted_io::{CountedWrite, WriteFault, write_text};
-use cql2::Column;
+use cql2::{Column, MAX_COLUMNS};
 use extract::Format;
 use std::alloc::Allocator;
 use tl_fields::number;
@@ -87,7 +87,7 @@ impl<A: Allocator> Format for FeatureWriter<A> {
         match self.geometry.ends(line) {
             Some(ends) => {
                 let shape = shape_of(&self.shapes, line);
-                let between = self.geometry.between(shape);
+                let between = self.geometry.inner_parts(shape);
                 write_line(self.notation, ends, between, &mut self.piece, out)
             }
             None => {

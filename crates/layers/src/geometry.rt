@@ -1,6 +1,6 @@
 //! The geometry of a segment.
 ghost use Rattle.std.specs.Prelude.{◌≡◌, length, IfSome};
-ghost use Rattle.layers.specs.Geometry.{AreEnds, between, ends_for};
+ghost use Rattle.layers.specs.Geometry.{AreEnds, ends_for, inner_parts};
 
 use crate::ends::Ends;
 use tl_records::RECORD_LENGTH;
@@ -30,8 +30,8 @@ impl Geometry {
     }
 
     /// Returns the parts of the shape that are written between the ends.
-    pub(crate) fn between(self, shape: &[ShapePart]) -> &[ShapePart]
-        ensures { result.now ≡ between self shape.now }
+    pub(crate) fn inner_parts(self, shape: &[ShapePart]) -> &[ShapePart]
+        ensures { result.now ≡ inner_parts self shape.now }
     {
         match self {
             Geometry::None | Geometry::Line => &[],

@@ -1,14 +1,15 @@
 //! Laws about the definitions, stated as contracts of functions that do nothing.
 ghost use Rattle.std.specs.Prelude.{◌≡◌, ◌==◌, ℕ, [], ◌∷◌, ◌++◌, true, codes, List, map, drop, Some, Ok};
 ghost use Rattle.std.specs.List.{IsDistinct, list_any, slice_split};
+ghost use Rattle.cql2.specs.Column.{column_name};
 ghost use Rattle.cql2.specs.declared.column.Column.{Column};
-ghost use Rattle.cql2_tokens.specs.Name.{column_name};
+ghost use Rattle.cql2.specs.declared.column.TheConstants.{COLUMNS};
 ghost use Rattle.csv.specs.Reading.{default_config, records};
 ghost use Rattle.layers.specs.Columns.{columns_named, is_same, usual_columns};
 ghost use Rattle.layers.specs.CsvTable.{header_cells, row_cells, table_text};
 ghost use Rattle.layers.specs.Feature.{IsWritable, feature, feature_text, features_text};
 ghost use Rattle.layers.specs.Layout.{LayoutParts, SelectedParts};
-ghost use Rattle.layers.specs.declared.columns.TheConstants.{COLUMNS, USUAL_COUNT};
+ghost use Rattle.layers.specs.declared.columns.TheConstants.{USUAL_COUNT};
 ghost use Rattle.json.specs.Json.{document};
 
 /// States that the usual columns are those of the fields, in the order of a record, and that only the house numbers as texts are columns besides.

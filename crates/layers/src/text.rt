@@ -3,17 +3,18 @@ ghost use Rattle.std.specs.Prelude.{◌≡◌, ◌+◌, ◌<◌, ◌≤◌, ◌^
 ghost use Rattle.numerals.specs.Degrees.{degrees};
 
 use arrayvec::ArrayVec;
+use cql2::MAX_COLUMNS;
 use numerals::{DEGREES_LENGTH, degrees};
 
 // A text of 60 bytes, each of which may be escaped to six, and the column's name with its punctuation.
 /// The greatest number of bytes that a column takes in a row, with its name.
 pub(crate) const MAX_COLUMN_LENGTH: usize = 384;
 
-/// The greatest number of bytes that are written at once: 40 columns, and what is around them.
-pub(crate) const MAX_PIECE_LENGTH: usize = 15_936;
-
 /// The greatest number of bytes of a row or a feature before its line, or of a header.
-pub(crate) const MAX_ROW_LENGTH: usize = 15_536;
+pub(crate) const MAX_ROW_LENGTH: usize = MAX_COLUMNS * MAX_COLUMN_LENGTH + 176;
+
+/// The greatest number of bytes that are written at once: a row, and what is around its line.
+pub(crate) const MAX_PIECE_LENGTH: usize = MAX_ROW_LENGTH + 400;
 
 /// A piece of text, which is written at once.
 pub(crate) type RowPiece = ArrayVec<u8, MAX_PIECE_LENGTH>;

@@ -7,7 +7,7 @@ use Rattle.wire.proofs.CountingLemmas.{same_rows}
 use Rattle.wire.specs.Answer.{Answers, memory_reply}
 use Rattle.wire.specs.Counting.{line_feeds}
 use Rattle.wire.specs.Decision.{DecisionParts, Names, request_read_of}
-use Rattle.wire.specs.Reading.{Decides, Sends, StopsInBody, WritesReply, replied, result_of}
+use Rattle.wire.specs.Reading.{Decides, Sends, StopsInBody, WritesReply, after_reply, result_of}
 use Rattle.wire.specs.Serving.{Connection, IsReplied, IsServed, IsSummarized, IsSummaryOf, ReturnsRequestRead, written_length, written_rows}
 use Rattle.wire.specs.declared.fault.WireFault.{WireFault}
 use Rattle.wire.specs.declared.decision.RequestRead.{RequestRead}
@@ -50,7 +50,7 @@ summarized_so request_read (Err WriteZero) result summary old new is replied abo
     rw is (record { request_read = request_read; replied = replied; is_summary = about })
 
 module _ (named : Named) (request_read : RequestRead) (sent : Sent) (old new : Connection) (replies : RepliesSo named request_read sent old new)
-    (given : Served) (is : given ≡ replied named request_read sent) where
+    (given : Served) (is : given ≡ after_reply named request_read sent) where
   is_result : given.result ≡ result_of request_read sent.written
   is_result = ap (λ (given : Served). given.result) is
 

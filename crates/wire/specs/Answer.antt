@@ -56,10 +56,15 @@ use Rattle.refusals.specs.declared.refusal.Class.{Class}
 use Rattle.refusals.specs.declared.refusal.Class.TheVariants as class
 use Rattle.tl_segments.specs.County.{CountyParts}
 use Rattle.wire.specs.Decision.{AnnouncesBody, RoutedParts, DecisionParts, IsDecided, Refuses, Disallows, Accepts, request_read_of}
-use Rattle.wire.specs.Query.{AreOptionsOf, HasNoOptions, requested_layer, requested_place}
+use Rattle.wire.specs.ParameterFault as parameter_fault
+use Rattle.wire.specs.ParameterFault.{NamesNearest, ParameterFaultParts}
+use Rattle.wire.specs.Query.{AreOptionsOf, query_fault, requested_layer, requested_place}
 use Rattle.wire.specs.State.{StateParts, counties_of}
 use Rattle.wire.specs.declared.decision.RequestRead.{RequestRead}
 use Rattle.wire.specs.declared.decision.RequestRead.TheVariants.{Partial}
+use Rattle.wire.specs.declared.parameter_fault.ParameterFault.{ParameterFault}
+use Rattle.wire.specs.declared.query.Parameters.{Parameters}
+use Rattle.wire.specs.declared.query.Parameters.TheVariants.{OfFilter, OfSelect}
 
 abbrev pub plain : Status → List ℕ → ReplyParts
 plain status body = record { status = status; media = Plain; allow = None; body = body }
@@ -144,47 +149,63 @@ abbrev pub failure_reply : FilterFailure → ReplyParts
 failure_reply filter_failure.Memory = memory_reply
 failure_reply failure = plain status.UnprocessableEntity (failure_text failure)
 
--- the filter isn't UTF-8, or a parameter of the query has an unknown value
-abbrev pub IsMalformedFilter : List ℕ → List ℕ → Type 0
-IsMalformedFilter query filter = (IsUtf8 filter → ⊥) ⊎ HasNoOptions query
+-- the line about a fault of the query's parameters
+abbrev pub parameter_reply : ParameterFault → ReplyParts
+parameter_reply fault = plain status.BadRequest (parameter_fault.line fault)
 
--- the reply for a filter that has no program
-pub data IsFilterRefused (query filter : List ℕ) (reply : ReplyParts) : Type 0 where
-  malformed : IsMalformedFilter query filter → reply ≡ status_reply status.BadRequest → IsFilterRefused query filter reply
-  failed : (options : FilterOptions) → AreOptionsOf query options → (failure : FilterFailure) → IsFilterFailure filter options failure
-      → reply ≡ failure_reply failure → IsFilterRefused query filter reply
-  out_of_memory : reply ≡ memory_reply → IsFilterRefused query filter reply
+-- the reply to a query with this first fault
+abbrev pub ReportsParameter : Option ParameterFaultParts → ReplyParts → Type 0
+ReportsParameter fault reply =
+    (reported : ParameterFault) × (fault ≡ Some (parameter_fault.parts_of reported)) × NamesNearest reported × (reply ≡ parameter_reply reported)
+
+-- the reply for a text that isn't UTF-8, or from which no program can be made
+abbrev pub IsTextRefused : FilterOptions → List ℕ → ReplyParts → Type 0
+IsTextRefused options filter reply =
+    ((IsUtf8 filter → ⊥) × (reply ≡ status_reply status.BadRequest))
+    ⊎ (IsUtf8 filter × (failure : FilterFailure) × IsFilterFailure filter options failure × (reply ≡ failure_reply failure))
+
+-- the reply for a filter that has no program; a parameter of the query is refused before the filter
+pub data IsFilterRefused (parameters : Parameters) (query filter : List ℕ) (reply : ReplyParts) : Type 0 where
+  invalid : ReportsParameter (query_fault parameters query) reply → IsFilterRefused parameters query filter reply
+  refused : query_fault parameters query ≡ None → (options : FilterOptions) → AreOptionsOf query options → IsTextRefused options filter reply
+      → IsFilterRefused parameters query filter reply
+  out_of_memory : reply ≡ memory_reply → IsFilterRefused parameters query filter reply
 
 abbrev pub media_of : LayerParts → MediaType
 media_of layers.Rows = Octets
 media_of (layers.Table layout) = Csv
 media_of (layers.Features layout) = media_type.Features
 
--- the text is the layer of the segments for which the filter is true in the counties, with the requested scores
-pub record IsSelected (counties : List CountyParts) (layer : LayerParts) (query filter text : List ℕ) : Type 0 where
-  pub options : FilterOptions
-  pub are_options : AreOptionsOf query options
+-- the text is the layer of the segments for which the filter is true in the counties
+pub record IsSelected (counties : List CountyParts) (layer : LayerParts) (options : FilterOptions) (filter text : List ℕ) : Type 0 where
   pub code : List Insn
   pub is_code : IsCodeOfText filter options code
   pub is_layer : IsLayerOf layer code counties text
 
--- the requested layer of the segments for which the filter is true
+-- the requested layer of the segments for which the filter is true, with the requested scores
+pub record IsSelection (counties : List CountyParts) (query filter : List ℕ) (reply : ReplyParts) : Type 0 where
+  pub valid : query_fault OfSelect query ≡ None
+  pub options : FilterOptions
+  pub are_options : AreOptionsOf query options
+  pub layer : LayerParts
+  pub is_requested : requested_layer query ≡ Ok layer
+  pub text : List ℕ
+  pub is_selected : IsSelected counties layer options filter text
+  pub is_reply : reply ≡ body_reply (media_of layer) text
+
 abbrev pub SelectsTo : List CountyParts → List ℕ → List ℕ → ReplyParts → Type 0
-SelectsTo counties query filter reply =
-    ((layer : LayerParts) × (requested_layer query ≡ Some layer) × (text : List ℕ) × IsSelected counties layer query filter text
-    × (reply ≡ body_reply (media_of layer) text))
-    ⊎ ((requested_layer query ≡ None) × (reply ≡ status_reply status.BadRequest))
-    ⊎ IsFilterRefused query filter reply
+SelectsTo counties query filter reply = IsSelection counties query filter reply ⊎ IsFilterRefused OfSelect query filter reply
 
 -- the program of a filter, with the requested scores
 pub record IsFilterProgram (query filter program : List ℕ) : Type 0 where
+  pub valid : query_fault OfFilter query ≡ None
   pub options : FilterOptions
   pub are_options : AreOptionsOf query options
   pub is_program : IsProgramOf filter options program
 
 abbrev pub CompilesTo : List ℕ → List ℕ → ReplyParts → Type 0
 CompilesTo query filter reply =
-    ((program : List ℕ) × IsFilterProgram query filter program × (reply ≡ octets program)) ⊎ IsFilterRefused query filter reply
+    ((program : List ℕ) × IsFilterProgram query filter program × (reply ≡ octets program)) ⊎ IsFilterRefused OfFilter query filter reply
 
 -- ---- places
 
@@ -247,7 +268,7 @@ SubmitsFilter query filter event = (program : List ℕ) × IsFilterProgram query
 -- the reply to the submission of a filter's program, or for a filter that has none
 abbrev pub SubmitsTo : List ℕ → List ℕ → Table → ReplyParts → Table → Type 0
 SubmitsTo query filter old reply new =
-    IsTableReply (SubmitsFilter query filter) old reply new ⊎ (IsFilterRefused query filter reply × (new ≡ old))
+    IsTableReply (SubmitsFilter query filter) old reply new ⊎ (IsFilterRefused OfFilter query filter reply × (new ≡ old))
 
 -- a request about jobs, which changes at most their table
 abbrev pub ChangesTable : (Table → ReplyParts → Table → Type 0) → StateParts → ReplyParts → StateParts → Type 0

@@ -17,6 +17,7 @@ use Rattle.wire.specs.Counting.{counted}
 use Rattle.wire.specs.State.{StateParts}
 use Rattle.wire.specs.Turn.{IsTurnOf}
 use Rattle.wire.specs.declared.decision.RequestRead.{RequestRead}
+use Rattle.wire.specs.declared.query.Parameters.TheVariants.{OfFilter}
 use Rattle.wire.specs.declared.summary.Summary.{Summary}
 
 -- an event that a request can be: any but a turn
@@ -47,7 +48,7 @@ Requests input event = (decision : DecisionParts) × IsDecided input decision ×
 
 -- a filter has no program to submit
 abbrev pub LacksProgram : Action → RoutedParts → ReplyParts → Type 0
-LacksProgram action.SubmitFilter request reply = IsFilterRefused request.query request.body reply
+LacksProgram action.SubmitFilter request reply = IsFilterRefused OfFilter request.query request.body reply
 LacksProgram action request reply = ⊥
 
 abbrev pub RefusesFilter : DecisionParts → ReplyParts → Type 0

@@ -3,6 +3,7 @@ pub mod State
 pub mod Counting
 pub mod Turn
 pub mod Decision
+pub mod ParameterFault
 pub mod Query
 pub mod Answer
 pub mod Event

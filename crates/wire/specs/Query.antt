@@ -1,21 +1,23 @@
 -- The parameters in the query of a target (URL Standard, section 5.1: application/x-www-form-urlencoded).
-use Rattle.std.specs.Prelude.{◌≡◌, ◌⊎◌, ℕ, List, find, codes, if◌then◌else◌, Option, Some, None, option_map, Result, Ok, Err}
+use Rattle.std.specs.Prelude.{◌≡◌, ◌||◌, ℕ, Bool, not, List, find, codes, if◌then◌else◌, Option, Some, None, option_map, Result, Ok, Err}
+use Rattle.std.specs.Option.{option_or}
+use Rattle.std.specs.Result.{result_err}
 use Rattle.std.specs.Str.{bytes_eq}
 use Rattle.std.specs.Str.Lossy.{utf8_lossy}
-use Rattle.cql2.specs.declared.column.Column.{Column}
-use Rattle.cql2.specs.declared.column.Column.TheVariants.{Numeric}
 use Rattle.cql2.specs.declared.column.NumericColumn.{NumericColumn}
-use Rattle.cql2_tokens.specs.Name.{column_named}
-use Rattle.layers.specs.Columns.{usual_columns}
-use Rattle.layers.specs.Layout.{LayoutParts}
-use Rattle.layers.specs.declared.geometry.Geometry.TheVariants.{Line}
+use Rattle.filters.specs.Options.{language_named, options_fault, score_named}
+use Rattle.filters.specs.OptionsFault.{FilterOptionsFaultParts}
 use Rattle.filters.specs.declared.filter.FilterLanguage.{FilterLanguage}
-use Rattle.filters.specs.declared.filter.FilterLanguage.TheVariants as language
 use Rattle.filters.specs.declared.filter.FilterOptions.{FilterOptions}
 use Rattle.form_urlencoded.specs.Form.{decode, raw_pairs}
 use Rattle.geocode.specs.Query.{QueryParts, query_of}
 use Rattle.geocode.specs.declared.query.QueryFault.{QueryFault}
-use Rattle.layers.specs.Layer.{LayerParts, Rows, Table, Features}
+use Rattle.layers.specs.Layer.{LayerParts, has_shapes}
+use Rattle.layers.specs.LayerFault.{LayerFaultParts}
+use Rattle.layers.specs.Names.{layer_named}
+use Rattle.wire.specs.ParameterFault.{ParameterFaultParts, Filter, Layer, NoShapes, Unknown}
+use Rattle.wire.specs.declared.query.Parameters.{Parameters}
+use Rattle.wire.specs.declared.query.Parameters.TheVariants.{OfFilter, OfSelect}
 
 -- the text that a key or a value stands for, with U+FFFD in place of invalid UTF-8
 abbrev pub decoded : List ℕ → List ℕ
@@ -41,54 +43,53 @@ place_with number name zip = None
 abbrev pub requested_place : List ℕ → Option QueryParts
 requested_place query = place_with (first_value (codes "number") query) (first_value (codes "name") query) (first_value (codes "zip") query)
 
--- the language of a filter with this name, by default text
-abbrev pub language_in : Option (List ℕ) → Option FilterLanguage
-language_in None = Some language.Text
-language_in (Some name) =
-    if bytes_eq name (codes "cql2-text") then Some language.Text
-    else if bytes_eq name (codes "cql2-json") then Some language.Json
-    else None
+-- ---- the options of a request with a filter
 
-abbrev pub requested_language : List ℕ → Option FilterLanguage
-requested_language query = language_in (first_value (codes "filter-lang") query)
+-- a filter's options; `POST /select` also takes those of its layer
+abbrev pub is_filter_key : List ℕ → Bool
+is_filter_key key = bytes_eq key (codes "filter-lang") || bytes_eq key (codes "score")
 
--- the column, if it holds numbers or a coordinate
-abbrev pub numeric : Option Column → Option NumericColumn
-numeric (Some (Numeric column)) = Some column
-numeric column = None
+abbrev pub is_select_key : List ℕ → Bool
+is_select_key key =
+    is_filter_key key || bytes_eq key (codes "format") || bytes_eq key (codes "columns") || bytes_eq key (codes "geometry")
 
--- the column of the score, which may be left out; none if no numeric column has the name
-abbrev pub score_in : Option (List ℕ) → Option (Option NumericColumn)
-score_in None = Some None
-score_in (Some name) = option_map Some (numeric (column_named name))
+abbrev pub takes : Parameters → List ℕ → Bool
+takes OfFilter key = is_filter_key key
+takes OfSelect key = is_select_key key
 
-abbrev pub requested_score : List ℕ → Option (Option NumericColumn)
-requested_score query = score_in (first_value (codes "score") query)
+-- the first of these pairs whose key isn't one of the parameters
+abbrev pub unknown_in : Parameters → List (List ℕ × List ℕ) → Option ParameterFaultParts
+unknown_in parameters pairs = option_map (λ pair. Unknown (decoded pair.0)) (find (λ pair. not (takes parameters (decoded pair.0))) pairs)
+
+abbrev pub unknown_key : Parameters → List ℕ → Option ParameterFaultParts
+unknown_key parameters query = unknown_in parameters (raw_pairs query)
+
+abbrev pub requested_language : List ℕ → Result FilterLanguage FilterOptionsFaultParts
+requested_language query = language_named (first_value (codes "filter-lang") query)
+
+abbrev pub requested_score : List ℕ → Result (Option NumericColumn) FilterOptionsFaultParts
+requested_score query = score_named (first_value (codes "score") query)
+
+-- a server has no shapes
+abbrev pub without_shapes : Result LayerParts LayerFaultParts → Result LayerParts ParameterFaultParts
+without_shapes (Err fault) = Err (Layer fault)
+without_shapes (Ok layer) = if has_shapes layer then Err NoShapes else Ok layer
+
+unfoldable pub requested_layer : List ℕ → Result LayerParts ParameterFaultParts
+requested_layer query =
+    without_shapes (layer_named (first_value (codes "format") query) (first_value (codes "columns") query) (first_value (codes "geometry") query))
 
 -- the requested options for compiling a filter
 abbrev pub AreOptionsOf : List ℕ → FilterOptions → Type 0
-AreOptionsOf query options = (requested_language query ≡ Some options.language) × (requested_score query ≡ Some options.score)
+AreOptionsOf query options = (requested_language query ≡ Ok options.language) × (requested_score query ≡ Ok options.score)
 
--- a value names no language, or no numeric column
-abbrev pub HasNoOptions : List ℕ → Type 0
-HasNoOptions query = (requested_language query ≡ None) ⊎ (requested_score query ≡ None)
+-- the first fault of the keys, the filter's language and its score
+abbrev pub filter_fault : Parameters → List ℕ → Option ParameterFaultParts
+filter_fault parameters query =
+    option_or (unknown_key parameters query)
+    (option_map Filter (options_fault (first_value (codes "filter-lang") query) (first_value (codes "score") query)))
 
-abbrev pub AreOptionsIfAny : List ℕ → Option FilterOptions → Type 0
-AreOptionsIfAny query (Some options) = AreOptionsOf query options
-AreOptionsIfAny query None = HasNoOptions query
-
--- the usual columns, and straight lines
-abbrev pub usual_layout : LayoutParts
-usual_layout = record { columns = usual_columns; geometry = Line }
-
--- the layer of a format with this name, by default rows
-abbrev pub format_in : Option (List ℕ) → Option LayerParts
-format_in None = Some Rows
-format_in (Some name) =
-    if bytes_eq name (codes "rows") then Some Rows
-    else if bytes_eq name (codes "csv") then Some (Table usual_layout)
-    else if bytes_eq name (codes "geojsonseq") then Some (Features usual_layout)
-    else None
-
-unfoldable pub requested_layer : List ℕ → Option LayerParts
-requested_layer query = format_in (first_value (codes "format") query)
+-- the first fault of a query; of `POST /select` also, last, of the layer
+abbrev pub query_fault : Parameters → List ℕ → Option ParameterFaultParts
+query_fault OfFilter query = filter_fault OfFilter query
+query_fault OfSelect query = option_or (filter_fault OfSelect query) (result_err (requested_layer query))

@@ -87,9 +87,9 @@ summary_of named sent = record {
 }
 
 -- a reply was written, completely or in part
-abbrev pub replied : Named → RequestRead → Sent → Served
-replied named request_read sent = record { result = result_of request_read sent.written; summary = summary_of named sent }
+abbrev pub after_reply : Named → RequestRead → Sent → Served
+after_reply named request_read sent = record { result = result_of request_read sent.written; summary = summary_of named sent }
 
 -- no reply was written
-abbrev pub unanswered : WireFault → Served
-unanswered fault = record { result = Err fault; summary = nothing }
+abbrev pub without_reply : WireFault → Served
+without_reply fault = record { result = Err fault; summary = nothing }

@@ -1,14 +1,9 @@
--- Internal definitions: why a filter has no program.
-use Rattle.std.specs.Prelude.{ℕ, List, ⊤}
-use Rattle.filters.specs.Filter.{IsFilterFailure}
-use Rattle.filters.specs.declared.failure.FilterFailure.TheVariants.{Memory}
-use Rattle.filters.specs.declared.filter.FilterOptions.{FilterOptions}
-use Rattle.wire.specs.Answer.{IsMalformedFilter}
-use Rattle.wire.specs.Query.{AreOptionsOf}
-use Rattle.wire.specs.declared.filter.FilterRefusal.{FilterRefusal}
-use Rattle.wire.specs.declared.filter.FilterRefusal.TheVariants.{Malformed, Failed}
+-- Internal definitions: the answer to a query with a fault.
+use Rattle.std.specs.Prelude.{◌≡◌, ◌⊎◌, Option}
+use Rattle.http_message.specs.Reply.{ReplyParts}
+use Rattle.wire.specs.Answer.{ReportsParameter, memory_reply}
+use Rattle.wire.specs.ParameterFault.{ParameterFaultParts}
 
-abbrev pub IsRefusalOf : List ℕ → List ℕ → FilterRefusal → Type 0
-IsRefusalOf query filter Malformed = IsMalformedFilter query filter
-IsRefusalOf query filter (Failed Memory) = ⊤
-IsRefusalOf query filter (Failed failure) = (options : FilterOptions) × AreOptionsOf query options × IsFilterFailure filter options failure
+-- the first fault of a query is reported, unless memory ran out
+abbrev pub ReportsUnlessMemory : Option ParameterFaultParts → ReplyParts → Type 0
+ReportsUnlessMemory fault reply = ReportsParameter fault reply ⊎ (reply ≡ memory_reply)

@@ -13,7 +13,7 @@ use counted_io::CountedWrite;
 use http_message::{MAX_LEAD_LENGTH, MediaType, Reply, Route, Status};
 use itoa::Buffer;
 use refusals::{Class, Refusal};
-use std::alloc::Allocator;
+use std::alloc::{AllocError, Allocator};
 
 /// The answer to a request, before it's laid out as a reply.
 #[derive(Drop)]
@@ -32,6 +32,8 @@ pub(crate) enum Response<'a, A: Allocator> {
     Refused(Refusal),
     /// A 422 with lines made for the request.
     RefusedLines(Vec<u8, A>),
+    /// A 400 with a line made for the request.
+    BadLine(Vec<u8, A>),
     /// A status with a line.
     Line {
         status: Status,
@@ -69,6 +71,10 @@ impl<'a, A: Allocator> Response<'a, A> {
                 status: Status::UnprocessableEntity,
                 ..plain(ArrayVec::new(), lines.as_slice())
             },
+            Response::BadLine(line) => Reply {
+                status: Status::BadRequest,
+                ..plain(ArrayVec::new(), line.as_slice())
+            },
             Response::Line { status, line } => Reply {
                 status: *status,
                 ..plain(with_line_end(*line), &[])
@@ -92,6 +98,16 @@ impl<'a, A: Allocator> Response<'a, A> {
             lines: body_lines(&reply),
             written: reply.write(out),
         }
+    }
+}
+
+impl<A: Allocator> From<AllocError> for Response<'_, A> {
+    ghost use Rattle.wire.specs.Answer.{memory_reply};
+
+    ghost from_gives = { λ _ answer. reply_of answer ≡ memory_reply };
+
+    fn from(_error: AllocError) -> Self {
+        Response::Refused(Refusal::memory())
     }
 }
 

@@ -16,14 +16,14 @@ use std::alloc::{AllocError, Allocator};
 pub(crate) fn explain_program<A: Allocator + Copy>(alloc: A, program: &[u8]) -> Response<'static, A>
     ensures { ExplainsTo program.now (reply_of result) }
 {
-    match explained(alloc, program) {
+    match explanation(alloc, program) {
         Ok(answer) => answer,
         // Without source lines, nothing fails but an allocation.
         Err(_fault) => Response::Refused(Refusal::memory()),
     }
 }
 
-fn explained<A: Allocator + Copy>(
+fn explanation<A: Allocator + Copy>(
     alloc: A,
     program: &[u8],
 ) -> Result<Response<'static, A>, ExplainFault>

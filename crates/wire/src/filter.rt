@@ -1,15 +1,15 @@
 //! The answers to filters.
-ghost use Rattle.std.specs.Prelude.{◌≡◌, List, ℕ, IfErr, IfOk};
+ghost use Rattle.std.specs.Prelude.{◌≡◌, ◌⊎◌, IfErr, IfOk};
 ghost use Rattle.layers.specs.LayerParts.{parts_of};
-ghost use Rattle.wire.specs.Answer.{CompilesTo, IsFilterProgram, IsFilterRefused, IsSelected, SelectsTo, SubmitsTo, media_of};
-ghost use Rattle.wire.specs.Query.{AreOptionsOf};
+ghost use Rattle.wire.specs.Answer.{CompilesTo, IsFilterProgram, IsFilterRefused, IsSelected, IsTextRefused, SelectsTo, SubmitsTo};
+ghost use Rattle.wire.specs.Answer.{failure_reply, media_of, memory_reply};
 ghost use Rattle.wire.specs.Reading.{WritesReply};
-ghost use Rattle.wire.specs.Refused.{IsRefusalOf};
 ghost use Rattle.wire.specs.Reply.{reply_of};
+ghost use Rattle.wire.specs.declared.query.Parameters.TheVariants as Parameters;
 
 use crate::answer::Response;
 use crate::job::write_job_reply;
-use crate::query::{filter_options, layer};
+use crate::query::{Parameters, filter_options, select_options};
 use crate::summary::Sent;
 use counted_io::CountedWrite;
 use filters::{FilterFailure, FilterOptions};
@@ -17,46 +17,8 @@ use http_message::{MediaType, Status};
 use jobs::{Event, Jobs};
 use layers::{Layer, lay_out};
 use refusals::Refusal;
-use std::alloc::{AllocError, Allocator, Global};
+use std::alloc::{Allocator, Global};
 use tl_segments::County;
-
-/// Why a filter has no program.
-#[derive(Drop)]
-enum FilterRefusal {
-    /// The filter isn't UTF-8, or a parameter has an unknown value.
-    Malformed,
-    Failed(FilterFailure),
-}
-
-impl From<AllocError> for FilterRefusal {
-    ghost use Rattle.filters.specs.declared.failure.FilterFailure.TheVariants.{Memory};
-    ghost use Rattle.wire.specs.declared.filter.FilterRefusal.TheVariants.{Failed};
-
-    ghost from_gives = { λ error refusal. refusal ≡ Failed Memory };
-
-    fn from(_error: AllocError) -> Self {
-        FilterRefusal::Failed(FilterFailure::Memory)
-    }
-}
-
-impl FilterRefusal {
-    /// Returns the answer: a 400, or the lines of the failure.
-    fn answer<A: Allocator>(self, alloc: A) -> Response<'static, A>
-        ensures { (query filter : List ℕ) → IsRefusalOf query filter self → IsFilterRefused query filter (reply_of result) }
-    {
-        match self {
-            FilterRefusal::Malformed => Response::Status(Status::BadRequest),
-            FilterRefusal::Failed(failure) => match failure.number() {
-                Some(_number) => match failure.text(alloc) {
-                    Ok(lines) => Response::RefusedLines(lines),
-                    Err(_error) => Response::Refused(Refusal::memory()),
-                },
-                // An allocation failed.
-                None => Response::Refused(Refusal::memory()),
-            },
-        }
-    }
-}
 
 /// Returns the requested layer of the segments for which a filter is true.
 pub(crate) fn select<A: Allocator + Copy>(
@@ -68,36 +30,40 @@ pub(crate) fn select<A: Allocator + Copy>(
 ) -> Response<'static, A>
     ensures { SelectsTo counties.now query.now filter.now (reply_of result) }
 {
-    let layer = match layer(alloc, query.as_bytes()) {
-        Ok(Some(layer)) => layer,
-        Ok(None) => return Response::Status(Status::BadRequest),
-        Err(_error) => return Response::Refused(Refusal::memory()),
+    let (options, layer) = match select_options(global, alloc, query.as_bytes()) {
+        Ok(read) => read,
+        Err(answer) => return answer,
     };
-    match selected(global, alloc, counties, &layer, query.as_bytes(), filter) {
+    match selected_layer(alloc, counties, &layer, options, filter) {
         Ok(body) => Response::Made {
             media: media_of(&layer),
             body,
         },
-        Err(refusal) => refusal.answer(alloc),
+        Err(answer) => answer,
     }
 }
 
-/// Returns the layer of the segments for which a filter is true.
-fn selected<A: Allocator + Copy>(
-    global: Global,
+/// Returns the layer of the segments for which a filter is true, or the answer that refuses it.
+fn selected_layer<A: Allocator + Copy>(
     alloc: A,
     counties: &[County<A>],
     layer: &Layer,
-    query: &[u8],
+    options: FilterOptions,
     filter: &[u8],
-) -> Result<Vec<u8, A>, FilterRefusal>
-    ensures ok { IfOk result (λ text. IsSelected counties.now (parts_of layer.now) query.now filter.now text.items) }
-    ensures err { IfErr result (IsRefusalOf query.now filter.now) }
+) -> Result<Vec<u8, A>, Response<'static, A>>
+    ensures ok { IfOk result (λ text. IsSelected counties.now (parts_of layer.now) options filter.now text.items) }
+    ensures err { IfErr result (λ answer. IsTextRefused options filter.now (reply_of answer)) }
 {
-    let options = usable_options(global, alloc, query, filter)?;
-    match options.verified(filter) {
-        Ok(program) => Ok(lay_out(alloc, &program, counties, layer)?),
-        Err(failure) => Err(FilterRefusal::Failed(failure)),
+    let Ok(_text) = str::from_utf8(filter) else {
+        return Err(Response::Status(Status::BadRequest));
+    };
+    let program = match options.verified(filter) {
+        Ok(program) => program,
+        Err(failure) => return Err(failure_answer(alloc, failure)),
+    };
+    match lay_out(alloc, &program, counties, layer) {
+        Ok(text) => Ok(text),
+        Err(_error) => Err(Response::Refused(Refusal::memory())),
     }
 }
 
@@ -120,12 +86,12 @@ pub(crate) fn compile_filter<A: Allocator + Copy>(
 ) -> Response<'static, A>
     ensures { CompilesTo query.now filter.now (reply_of result) }
 {
-    match compiled(global, alloc, query.as_bytes(), filter) {
+    match filter_program(global, alloc, query.as_bytes(), filter) {
         Ok(body) => Response::Made {
             media: MediaType::Octets,
             body,
         },
-        Err(refusal) => refusal.answer(alloc),
+        Err(answer) => answer,
     }
 }
 
@@ -140,43 +106,45 @@ pub(crate) fn submit_filter<A: Allocator + Copy, W: CountedWrite>(
 ) -> Sent
     ensures { WritesReply (λ reply. SubmitsTo query.now filter.now jobs.old reply jobs.new) result (W.writer out.old) (W.writer out.new) }
 {
-    match compiled(global, alloc, query.as_bytes(), filter) {
+    match filter_program(global, alloc, query.as_bytes(), filter) {
         Ok(program) => write_job_reply(jobs, Event::Submit(program.as_slice()), out),
-        Err(refusal) => refusal.answer(alloc).write(out),
+        Err(answer) => answer.write(out),
     }
 }
 
-fn compiled<A: Allocator + Copy>(
+/// Returns the words of a filter's program, or the answer that refuses the query or the filter.
+fn filter_program<A: Allocator + Copy>(
     global: Global,
     alloc: A,
     query: &[u8],
     filter: &[u8],
-) -> Result<Vec<u8, A>, FilterRefusal>
+) -> Result<Vec<u8, A>, Response<'static, A>>
     ensures ok { IfOk result (λ program. IsFilterProgram query.now filter.now program.items) }
-    ensures err { IfErr result (IsRefusalOf query.now filter.now) }
+    ensures err { IfErr result (λ answer. IsFilterRefused Parameters.OfFilter query.now filter.now (reply_of answer)) }
 {
-    let options = usable_options(global, alloc, query, filter)?;
+    let options = match filter_options(global, alloc, Parameters::OfFilter, query) {
+        Ok(options) => options,
+        Err(answer) => return Err(answer),
+    };
+    let Ok(_text) = str::from_utf8(filter) else {
+        return Err(Response::Status(Status::BadRequest));
+    };
     match options.program(alloc, filter) {
         Ok(program) => Ok(program),
-        Err(failure) => Err(FilterRefusal::Failed(failure)),
+        Err(failure) => Err(failure_answer(alloc, failure)),
     }
 }
 
-/// Returns the requested options for a filter in UTF-8.
-fn usable_options<A: Allocator + Copy>(
-    global: Global,
-    alloc: A,
-    query: &[u8],
-    filter: &[u8],
-) -> Result<FilterOptions, FilterRefusal>
-    ensures ok { IfOk result (AreOptionsOf query.now) }
-    ensures err { IfErr result (IsRefusalOf query.now filter.now) }
+/// Returns the answer that reports why a filter has no program.
+fn failure_answer<A: Allocator>(alloc: A, failure: FilterFailure) -> Response<'static, A>
+    ensures { (reply_of result ≡ failure_reply failure) ⊎ (reply_of result ≡ memory_reply) }
 {
-    let Ok(_text) = str::from_utf8(filter) else {
-        return Err(FilterRefusal::Malformed);
-    };
-    match filter_options(global, alloc, query)? {
-        Some(options) => Ok(options),
-        None => Err(FilterRefusal::Malformed),
+    match failure.number() {
+        Some(_number) => match failure.text(alloc) {
+            Ok(lines) => Response::RefusedLines(lines),
+            Err(_error) => Response::Refused(Refusal::memory()),
+        },
+        // An allocation failed.
+        None => Response::Refused(Refusal::memory()),
     }
 }

@@ -6,7 +6,7 @@ ghost use Rattle.wire.specs.Reply.{reply_of};
 ghost use Rattle.wire.specs.State.{counties_of};
 
 use crate::answer::Response;
-use crate::state::{State, borrowed};
+use crate::state::{State, borrow_texts};
 use address_batch::Batch;
 use addresses::AddressFault;
 use http_message::MediaType;
@@ -31,7 +31,7 @@ impl<A: Allocator + Copy> State<A> {
         ensures ok { IfOk result (λ text. IsOutputOf file.now self.now.codes (counties_of self.now) text.items) }
         ensures err { IfErr result (IsAddressesFault file.now) }
     {
-        let codes = borrowed(self.alloc, self.codes.as_slice())?;
+        let codes = borrow_texts(self.alloc, self.codes.as_slice())?;
         let counties = self.jobs.counties();
         let batch = Batch::with(&self.gazetteer, counties, codes.as_slice());
         batch.output(self.alloc, self.global, file)

@@ -11,6 +11,7 @@ mod geocode_batch;
 mod geocoder;
 mod job;
 pub mod laws;
+mod parameter_fault;
 mod programs;
 mod query;
 mod serving;

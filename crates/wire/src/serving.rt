@@ -2,7 +2,7 @@
 ghost use Rattle.std.specs.Prelude.{◌≡◌};
 ghost use Rattle.wire.specs.Answer.{Answers, AnswersAction, memory_reply};
 ghost use Rattle.wire.specs.Counting.{rows_among};
-ghost use Rattle.wire.specs.Reading.{Sends, WritesReply, decision_of, replied, result_of, routed_of, unanswered};
+ghost use Rattle.wire.specs.Reading.{Sends, WritesReply, decision_of, after_reply, result_of, routed_of, without_reply};
 ghost use Rattle.wire.specs.Serving.{IsServed, IsSummarized, ReturnsRequestRead, written_length, written_rows};
 
 use crate::answer::Response;
@@ -32,8 +32,8 @@ pub struct Served {
 
 impl Served {
     /// Returns the result for a reply, written completely or in part.
-    fn replied(named: Named, request_read: RequestRead, sent: Sent) -> Served
-        ensures { result ≡ replied named request_read sent }
+    fn after_reply(named: Named, request_read: RequestRead, sent: Sent) -> Served
+        ensures { result ≡ after_reply named request_read sent }
     {
         Served {
             result: to_result(request_read, sent.written),
@@ -47,8 +47,8 @@ impl Served {
     }
 
     /// Returns the result without a reply.
-    fn unanswered(fault: WireFault) -> Served
-        ensures { result ≡ unanswered fault }
+    fn without_reply(fault: WireFault) -> Served
+        ensures { result ≡ without_reply fault }
     {
         Served {
             result: Err(fault),
@@ -88,16 +88,16 @@ pub fn serve_request<A: Allocator + Copy, R: CountedRead, W: CountedWrite>(
     let mut buffer = HeadBuffer::new();
     let decided = match read_decision(state.alloc, &state.routes, &mut buffer, input) {
         Ok(decided) => decided,
-        Err(ReadFault::Closed) => return Served::unanswered(WireFault::Closed),
-        Err(ReadFault::Read) => return Served::unanswered(WireFault::Read),
+        Err(ReadFault::Closed) => return Served::without_reply(WireFault::Closed),
+        Err(ReadFault::Read) => return Served::without_reply(WireFault::Read),
         Err(ReadFault::Memory(named)) => {
             let sent = write_out_of_memory::<A, W>(out);
-            return Served::replied(named, RequestRead::Partial, sent);
+            return Served::after_reply(named, RequestRead::Partial, sent);
         }
     };
     let request_read = decided.decision.request_read();
     let sent = state.answer(&decided.decision, out);
-    Served::replied(decided.named, request_read, sent)
+    Served::after_reply(decided.named, request_read, sent)
 }
 
 /// Serves like [`serve_request`], but doesn't return how much of the request was read.

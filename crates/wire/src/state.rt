@@ -72,7 +72,7 @@ impl<A: Allocator + Copy> State<A> {
         ensures { IfOk result (λ state. state ≡ new_state (map (λ code. code.now) codes.now) counties.items start) }
     {
         let routes = Routes::new(global)?;
-        let codes = copied(alloc, codes)?;
+        let codes = copy_texts(alloc, codes)?;
         let gazetteer = Gazetteer::of(alloc, counties.as_slice())?;
         Ok(State {
             alloc,
@@ -100,7 +100,10 @@ impl<A: Allocator + Copy> State<A> {
 }
 
 /// Returns copies of texts.
-fn copied<A: Allocator + Copy>(alloc: A, texts: &[&str]) -> Result<Vec<String<A>, A>, AllocError>
+fn copy_texts<A: Allocator + Copy>(
+    alloc: A,
+    texts: &[&str],
+) -> Result<Vec<String<A>, A>, AllocError>
     ensures { IfOk result (λ copies. map string_bytes copies.items ≡ map (λ text. text.now) texts.now) }
 {
     let mut copies = Vec::new(alloc);
@@ -111,7 +114,7 @@ fn copied<A: Allocator + Copy>(alloc: A, texts: &[&str]) -> Result<Vec<String<A>
 }
 
 /// Borrows texts.
-pub(crate) fn borrowed<'t, A: Allocator + Copy>(
+pub(crate) fn borrow_texts<'t, A: Allocator + Copy>(
     alloc: A,
     texts: &'t [String<A>],
 ) -> Result<Vec<&'t str, A>, AllocError>

@@ -25,9 +25,11 @@ POST /extract{curl} >> {stuck} => =422 Unprocessable Entity; text/plain; 35; ref
 
 one
 POST /select?score=FRADDL{curl} >> FENAME = 'Lantern' => =200 OK; application/octet-stream; 233; 201\t{lantern}\n
+POST /select?score=FRADDL&format=csv&columns=FENAME,FETYPE&geometry=none{curl} >> FENAME = 'Lantern'
+  => =200 OK; text/csv; 35; score,FENAME,FETYPE\n201,Lantern,Ct\n
 POST /select{curl} >> ZIPL = '36067' => =422 Unprocessable Entity; text/plain; 99; refused 92 line 1 column 8 WrongType\nthe column isn't of this
   type: write a number, without quotes\n
-POST /select?score=FENAME{curl} >> ZIPL = 36067 => =400 Bad Request; text/plain; 12; bad request\n
+POST /select?fmt=csv{curl} >> ZIPL = 36067 => =400 Bad Request; text/plain; 41; error: unexpected argument '--fmt' found\n
 
 one
 GET /geocode?number=251&name=lantern{curl} => =200 OK; text/plain; 31; 107000725\tL\t-86629812\t32412161\n

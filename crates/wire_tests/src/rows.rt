@@ -26,6 +26,7 @@ const REPLIES: Table = Table(
 200 csv @; 200 OK; text/csv; @;
 200 features @; 200 OK; application/geo+json-seq; @;
 400; 400 Bad Request; text/plain; bad request\n;
+400 @; 400 Bad Request; text/plain; @\n;
 404; 404 Not Found; text/plain; not found\n;
 405 @; 405 Method Not Allowed; text/plain; method not allowed\n; @
 411; 411 Length Required; text/plain; length required\n;

@@ -83,6 +83,7 @@ fn bodies(rt: HostRuntime) {
         routes::PROGRAMS,
         examples::REQUESTS,
         filter_routes::FILTERS,
+        filter_routes::OPTIONS,
         filter_routes::LISTINGS,
     ] {
         assert_eq!(rt;

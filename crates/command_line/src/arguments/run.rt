@@ -7,8 +7,7 @@ ghost use Rattle.command_line.specs.declared.arguments.subcommand.Subcommand.The
 
 use crate::argument::{COLUMNS, COUNTY, DATA, Declaration, FORMAT, GEOMETRY, PROGRAM};
 use crate::fault::ArgumentsFault;
-use crate::layer_options::layer;
-use crate::options::{code, value};
+use crate::options::{code, layer, value};
 use clap::ArgMatches;
 use commands::Run;
 use std::alloc::Global;

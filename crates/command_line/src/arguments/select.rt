@@ -10,8 +10,7 @@ use crate::argument::{
     LANGUAGE, SCORE,
 };
 use crate::fault::ArgumentsFault;
-use crate::layer_options::layer;
-use crate::options::{codes, filter_options, value};
+use crate::options::{codes, filter_options, layer, value};
 use clap::ArgMatches;
 use commands::Select;
 use std::alloc::Global;

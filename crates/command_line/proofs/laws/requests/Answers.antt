@@ -1,10 +1,11 @@
-use Rattle.std.proofs.Common.{◌≡◌, List, Option, refl, sym, ap, Some, None}
+use Rattle.std.proofs.Common.{◌≡◌, List, Option, refl, sym, ap, codes, Some, Ok, Err}
 use Rattle.clap.specs.Walk.{Text}
 use Rattle.clap.proofs.OnLiterals.{clap_on_literals}
 use Rattle.filters.specs.declared.filter.FilterLanguage.{FilterLanguage}
 use Rattle.cql2.specs.declared.column.NumericColumn.{NumericColumn}
 use Rattle.layers.specs.Columns.{is_same}
 use Rattle.layers.specs.Layer.{LayerParts}
+use Rattle.layers.specs.LayerFault.{NotOfRows}
 use Rattle.layers.specs.LayerParts.{parts_of}
 use Rattle.command_line.specs.Arguments.{program}
 use Rattle.command_line.proofs.laws.requests.Goals as goal
@@ -19,7 +20,7 @@ returns-clause-run c = λ run file folder code layer. record {
     record {
       program = ap (λ (text : Text). Some text) (sym file);
       folder = ap (λ (text : Text). Some text) (sym folder);
-      layer = ap (λ (layer : LayerParts). Some layer) (sym layer);
+      layer = ap (λ (layer : LayerParts). Ok layer) (sym layer);
       code = ap (λ (text : Text). Some text) (sym code);
     },
   );
@@ -35,7 +36,7 @@ returns-clause-table c = λ run file folder code layer. record {
     record {
       program = ap (λ (text : Text). Some text) (sym file);
       folder = ap (λ (text : Text). Some text) (sym folder);
-      layer = ap (λ (layer : LayerParts). Some layer) (sym layer);
+      layer = ap (λ (layer : LayerParts). Ok layer) (sym layer);
       code = ap (λ (text : Text). Some text) (sym code);
     },
   );
@@ -51,7 +52,7 @@ returns-clause-features c = λ run file folder code layer. record {
     record {
       program = ap (λ (text : Text). Some text) (sym file);
       folder = ap (λ (text : Text). Some text) (sym folder);
-      layer = ap (λ (layer : LayerParts). Some layer) (sym layer);
+      layer = ap (λ (layer : LayerParts). Ok layer) (sym layer);
       code = ap (λ (text : Text). Some text) (sym code);
     },
   );
@@ -60,7 +61,7 @@ returns-clause-features c = λ run file folder code layer. record {
 pub returns-clause-unformatted : goal.returns-clause-unformatted
 unfolding clap_on_literals program
 returns-clause-unformatted c = λ request is.
-    let none : None ≡ Some (parts_of is.made.0.layer) = is.made.2.layer in cc
+    let none : Err (NotOfRows (codes "columns")) ≡ Ok (parts_of is.made.0.layer) = is.made.2.layer in cc
 
 pub returns-clause-json : goal.returns-clause-json
 unfolding clap_on_literals program
@@ -71,8 +72,8 @@ returns-clause-json c = λ compile file json unscored. record {
     refl,
     record {
       filter = ap (λ (text : Text). Some text) (sym file);
-      language = ap (λ (language : FilterLanguage). Some language) (sym json);
-      score = ap (λ (score : Option NumericColumn). Some score) (sym unscored);
+      language = ap (λ (language : FilterLanguage). Ok language) (sym json);
+      score = ap (λ (score : Option NumericColumn). Ok score) (sym unscored);
     },
   );
 }

@@ -1,5 +1,5 @@
 use Rattle.std.proofs.Common.{append_assoc}
-use Rattle.commands.proofs.EscapeLemmas.{escaped_name}
+use Rattle.reports.proofs.EscapeLemmas.{escaped_name}
 use Rattle.commands.proofs.failure.report_county_file.Goals as goal
 
 pub returns : goal.returns

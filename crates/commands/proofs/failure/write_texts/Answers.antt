@@ -1,5 +1,5 @@
 use Rattle.std.proofs.Common.{ℕ, List, Bor, Ok, Err, refl}
-use Rattle.commands.proofs.PieceLemmas.{piece_stopped, piece_written, pieces_done}
+use Rattle.reports.proofs.PieceLemmas.{piece_stopped, piece_written, pieces_done}
 use Rattle.commands.proofs.failure.write_texts.Goals as goal
 
 abbrev bytes_of : Bor (List ℕ) → List ℕ

@@ -1,6 +1,6 @@
 use Rattle.std.proofs.Common.{◌∙◌}
 use Rattle.geocode.specs.HitLine.{line}
-use Rattle.commands.proofs.PieceLemmas.{piece_stopped, piece_written}
+use Rattle.reports.proofs.PieceLemmas.{piece_stopped, piece_written}
 use Rattle.commands.proofs.geocoder.write_lines.Goals as goal
 
 pub loop-hit-preserved : goal.loop-hit-preserved

@@ -1,5 +1,5 @@
 use Rattle.std.proofs.Common.{◌∷◌, [], ◌++◌, length, length-append, codes, sym, ap, ◌∙◌, arith}
-use Rattle.cql2_tokens.specs.Name.{column_name}
+use Rattle.cql2.specs.Column.{column_name}
 use Rattle.layers.proofs.CellLemmas.{row_next}
 use Rattle.layers.proofs.NameLemmas.{field_text-column_name, name_short}
 use Rattle.layers.proofs.csv_table.push_names.Goals as goal

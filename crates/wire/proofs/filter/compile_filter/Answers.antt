@@ -2,4 +2,4 @@ use Rattle.std.proofs.Common.{inr}
 use Rattle.wire.proofs.filter.compile_filter.Goals as goal
 
 pub returns-in-Err : goal.returns-in-Err
-returns-in-Err g c = inr (c.answer.ensures _ _ (rw c.as_bytes.ensures.value at c.in-Err.ensures.err))
+returns-in-Err g c = inr (rw c.as_bytes.ensures.value at c.in-Err.ensures.err)

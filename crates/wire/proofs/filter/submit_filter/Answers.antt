@@ -5,5 +5,5 @@ use Rattle.wire.proofs.filter.submit_filter.Goals as goal
 
 pub returns-in-Err : goal.returns-in-Err
 returns-in-Err g c =
-    let refused = c.answer.ensures c.args.query.now c.args.filter.now (rw c.as_bytes.ensures.value at c.in-Err.ensures.err) in
-    writes_such _ (reply_of c.answer.result) _ _ _ (inr (refused, refl)) c.write.ensures
+    let refused = rw c.as_bytes.ensures.value at c.in-Err.ensures.err in
+    writes_such _ (reply_of c.in-Err.answer) _ _ _ (inr (refused, refl)) c.write.ensures

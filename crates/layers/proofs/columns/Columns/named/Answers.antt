@@ -4,6 +4,7 @@ use Rattle.std.proofs.lemmas.Result.{err_from_is_err_and}
 use Rattle.std.specs.Borrow.{Bor}
 use Rattle.std.specs.List.{IsDistinct}
 use Rattle.cql2.specs.declared.column.Column.{Column}
+use Rattle.cql2.specs.declared.column.TheConstants.{MAX_COLUMNS}
 use Rattle.layers.proofs.ColumnLemmas.{columns_named-some, column_added, fault_stops, names_left, put_column, room, still_distinct}
 use Rattle.layers.specs.Columns.{columns_after, columns_named, is_same}
 use Rattle.layers.proofs.columns.Columns.named.Goals as goal
@@ -44,7 +45,7 @@ loop-count-preserved c =
     let column = c.in_ok-columns.field-0 in
     let before = take count columns in
     let left = names_left c.args.names.now count _ c.as_bytes.result.now c.loop-count-test.true c.as_bytes.ensures.value in
-    let inside : count < 40 =
+    let inside : count < MAX_COLUMNS =
     room columns count column c.loop-count.invariant.length c.loop-count.invariant.few c.loop-count.invariant.distinct c.in_ok-columns.ensures.new in
     let put : before ++ column ∷ [] ≡ take (count + 1) (set columns count column) =
     sym (put_column columns count column c.loop-count.invariant.length inside) in

@@ -2,7 +2,7 @@ use Rattle.std.proofs.Common.{◌≡◌, ℕ, List, ◌++◌, Some, None, ap, ap
 use Rattle.counted_io.specs.Writing.{WritesText}
 use Rattle.layers.proofs.LayerLemmas.{with_line, without_line}
 use Rattle.layers.specs.FeatureWriter.{format_of, start_of}
-use Rattle.layers.specs.Geometry.{between, ends_for}
+use Rattle.layers.specs.Geometry.{ends_for, inner_parts}
 use Rattle.layers.specs.Layer.{shape_in}
 use Rattle.layers.specs.Layout.{LayoutParts}
 use Rattle.tl_segments.specs.Shapes.{table_of}
@@ -20,7 +20,7 @@ returns-in-Some-clause-written g c =
     let found : ends_for layout.geometry segment.bytes ≡ Some ends =
     ap (ends_for layout.geometry) (sym c.bytes-line.ensures.value) ∙ sym c.ends.ensures.value ∙ c.in-Some.is in
     let text_is = ap₂ (λ (before rest : List ℕ). (before ++ start_text self.notation ends.start) ++ rest) start
-    (ap (λ shape. rest_text self.notation shape ends.end) (c.between-between.ensures ∙ ap (between self.geometry)
+    (ap (λ shape. rest_text self.notation shape ends.end) (c.inner_parts-between.ensures ∙ ap (inner_parts self.geometry)
     (c.shape_of-shape.ensures ∙ ap (shape_in (table_of self.shapes)) c.bytes-line.ensures.value)))
     ∙ with_line self.notation layout c.as_slice.ensures.some c.args.score segment _ ends found in
     subst (λ (text : List ℕ). WritesText text c.write_line.result (value_of c.args.out.now) (value_of c.write_line.new.out)) text_is c.write_line.ensures
