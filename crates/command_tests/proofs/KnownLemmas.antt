@@ -75,6 +75,8 @@ module _ (bytes : List ℕ → List ℕ) {held held' : List ℕ} {counts counts'
         rt6 = lines_left _ of.old.segments.joined.rt6.left loads.joined.rt6 segments.joined.rt6.left loads.reads_joined.rt6.known;
         text = extracted.text;
         rows = is.written.0;
-        is_extract = subst (λ (segments : List SegmentParts). IsExtract of.outcome.0 segments extracted.text is.written.0) loads.are_segments extracted.is_extract;
+        is_extract =
+            subst (λ (segments : List SegmentParts). IsExtract of.outcome.0 segments extracted.text is.written.0) loads.are_segments
+            extracted.is_extract;
         written = appended held extracted.text is.unflushed.held held' extracted.written is.flushed.unchanged;
       }
